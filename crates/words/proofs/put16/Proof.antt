@@ -1,0 +1,37 @@
+-- `words::put16` stores the two bytes of a word.
+use Rattle.words.specs.Words.{le, stored}
+use Prim.Native.Nat.{_/_, _%_}
+use mathlib.Core.Path.{_≡_}
+use lib.ListN.{length-set}
+use native.Mathlib.Numerals.{add-one}
+use native.Mathlib.Omega.{arith}
+use borrow.Author.Needs.{needs}
+use Rattle.words.proofs.put16.Statement.{statement}
+use Rattle.words.proofs.put16.Tie as tie
+
+cast-out : tie.Need-cast-out
+cast-out c = search needs
+
+slice-write-out : tie.Need-slice-write-out
+slice-write-out c = search needs
+
+cast-out-2 : tie.Need-cast-out-2
+cast-out-2 c = search needs
+
+add-out : tie.Need-add-out
+add-out c = search needs
+
+slice-write-out-2 : tie.Need-slice-write-out-2
+slice-write-out-2 c = simp length-set (omega arith)
+
+same-length : tie.Need-same-length
+same-length c = search needs
+
+returns : tie.Need-returns
+unfolding le stored
+returns c = let e : c .args .x / 256 % 256 ≡ c .args .x / 256 = omega arith in rw (add-one, e)
+
+pub put16-spec : {M : Type 1} → statement M
+put16-spec =
+    tie.close
+    (tie.spec cast-out slice-write-out cast-out-2 add-out slice-write-out-2 same-length returns)
