@@ -1,0 +1,11 @@
+pub mod Lists
+pub mod Numbers
+pub mod Forms
+pub mod Register
+pub mod Sheet
+pub mod Gathering
+pub mod Closing
+pub mod ReadCheck
+pub mod Refused
+pub mod Answers
+pub mod Promises

@@ -1,0 +1,63 @@
+-- What an operation promises: its answer is the outcome's, and every lent byte is told.
+use Prim.Native.Nat.{ℕ}
+use mathlib.Core.Path.{_≡_}
+use mathlib.Core.List.{_++_}
+use lib.ListN.{length, drop}
+use Rattle.words.specs.Words.{Bytes}
+use Rattle.rules.specs.declared.answer.Answer.{Answer}
+use Rattle.rules.specs.declared.answer.Closed.{Closed}
+use Rattle.rules.specs.declared.answer.Checked.{Checked}
+use Rattle.rules.specs.Answers.{answerNumbers, closedNumbers, checkedNumbers, reasonNumber}
+use Rattle.rules.specs.ReadCheck.{Finding, passes, fails}
+use Rattle.rules.specs.Refused.{Outcome, refused, done, Closing}
+
+-- the new bytes at the start of a buffer; those after them stay
+unfoldable pub over : Bytes → Bytes → Bytes
+over old new = new ++ drop (length new) old
+
+-- the number and the length that an outcome is answered with
+unfoldable pub told : Outcome Bytes → ℕ × ℕ
+told (refused n) = (n, 0)
+told (done b) = (0, length b)
+
+-- what an outcome leaves in a buffer: after a refusal, what it held
+unfoldable pub left : Outcome Bytes → Bytes → Bytes
+left (refused n) old = old
+left (done b) old = over old b
+
+-- of an operation with one buffer, which held `before` and then holds `after`
+pub record Promise (o : Outcome Bytes) (before : Bytes) (answer : Answer) (after : Bytes) : Type 0 where
+  pub answered : answerNumbers answer ≡ told o
+  pub buffer : after ≡ left o before
+
+unfoldable pub toldClosing : Outcome Closing → ℕ × ℕ × ℕ
+toldClosing (refused n) = (n, 0, 0)
+toldClosing (done c) = (0, length c.register, length c.verdicts)
+
+unfoldable pub leftRegister : Outcome Closing → Bytes → Bytes
+leftRegister (refused n) old = old
+leftRegister (done c) old = over old c.register
+
+unfoldable pub leftVerdicts : Outcome Closing → Bytes → Bytes
+leftVerdicts (refused n) old = old
+leftVerdicts (done c) old = over old c.verdicts
+
+-- of closing, with a buffer for the next register and one for the verdicts
+pub record ClosePromise (o : Outcome Closing) (before-next before-verdicts : Bytes) (answer : Closed) (after-next after-verdicts : Bytes) : Type 0 where
+  pub answered : closedNumbers answer ≡ toldClosing o
+  pub next : after-next ≡ leftRegister o before-next
+  pub verdicts : after-verdicts ≡ leftVerdicts o before-verdicts
+
+unfoldable pub toldFinding : Outcome Finding → ℕ × ℕ × ℕ × ℕ
+toldFinding (refused n) = (n, 0, 0, 0)
+toldFinding (done passes) = (0, 0, 0, 0)
+toldFinding (done (fails i k r)) = (0, i, k, reasonNumber r)
+
+-- of the read check, which is lent no buffer to write
+pub record CheckPromise (o : Outcome Finding) (answer : Checked) : Type 0 where
+  pub answered : checkedNumbers answer ≡ toldFinding o
+
+-- opens all of these, for a proof by computation
+unfoldable pub runPromises : Unit {0}
+unfolding over told left toldClosing leftRegister leftVerdicts toldFinding
+runPromises = tt

@@ -1,0 +1,16 @@
+// The vocabulary of document 01: marks, rows, records and reads as values, and the answers of the operations.
+// The rules themselves are the definitions in specs/.
+mod answer;
+mod mark;
+mod row;
+
+pub use answer::Answer;
+pub use answer::Checked;
+pub use answer::Closed;
+pub use answer::Reason;
+pub use answer::Refusal;
+pub use answer::Verdict;
+pub use mark::Mark;
+pub use row::Read;
+pub use row::Record;
+pub use row::Row;
