@@ -1,0 +1,148 @@
+-- How many rows the next register has: the old ones and the committed inserts, less the committed deletes. So room freed by deletes in
+-- an epoch serves that epoch's inserts.
+use Prim.Native.Nat.{ℕ, suc, _+_, _≤_, _<_}
+use mathlib.Core.Path.{_≡_, refl, sym, _∙_, ap}
+use mathlib.Core.Logic.{_⊎_, ⊎-elim}
+use mathlib.Core.Bool.{Bool, true, false, false≢true}
+use mathlib.Core.List.{List, [], _∷_, map, List·Memᴰ, List·Memᴰ·head, List·Memᴰ·tail, List·Memᴰ·cases-cons, Memᴰ·cast, Memᴰ·map, Memᴰ·of-map}
+use mathlib.Core.Option.{Option, none, some}
+use native.Mathlib.Omega.{arith}
+use borrow.Author.Tests.{eqb-true}
+use lib.ListN.{length, length-map}
+use lib.Dec.{ltb, eqb}
+use Rattle.rules.specs.declared.row.Row.{Row}
+use Rattle.rules.specs.declared.row.Record.{Record}
+use Rattle.rules.specs.Lists.{if_then_else_, keep, flat, count}
+use Rattle.rules.specs.Register.{Register, keyOf, soundRegister}
+use Rattle.rules.specs.Sheet.{Sheet, recordKey, insert, delete, soundSheet}
+use Rattle.rules.specs.Closing.{applied, appliedTo, isDeleted, rowAfter, insertedRow, putRow, putRows, rowsAfter, nextRows}
+use Rattle.laws.specs.ListLaws.{Sub, keep→, →keep}
+use Rattle.laws.specs.RegisterLaws.{soundRegister→}
+use Rattle.laws.specs.Rising.{Rising, nil, cons, rising→, rising-keep}
+use Rattle.laws.specs.Applied.{OneEach, none-left, one-more, each-keep, applied-each, appliedTo→}
+use Rattle.laws.specs.NextRows.{gone, remains}
+use Rattle.laws.specs.Whole.{names-old, is-deleted}
+
+-- ---- lists of different numbers: fewer of them make no longer list
+
+data Different : List ℕ → Type 0 where
+  nothing : Different []
+  another : {x : ℕ} {xs : List ℕ} → (List·Memᴰ x xs → ⊥) → Different xs → Different (x ∷ xs)
+
+-- the list without one of its elements
+without : {x : ℕ} {xs : List ℕ} → List·Memᴰ x xs → List ℕ
+without (List·Memᴰ·head {xs} e) = xs
+without (List·Memᴰ·tail {x} m) = x ∷ without m
+
+without-length : {x : ℕ} {xs : List ℕ} (m : List·Memᴰ x xs) → length xs ≡ suc (length (without m))
+unfolding without
+without-length (List·Memᴰ·head e) = refl
+without-length (List·Memᴰ·tail m) = ap suc (without-length m)
+
+without-other : {x y : ℕ} {xs : List ℕ} (m : List·Memᴰ x xs) → List·Memᴰ y xs → (y ≡ x → ⊥) → List·Memᴰ y (without m)
+unfolding without
+without-other (List·Memᴰ·head e) k d = ⊎-elim (λ q. absurd (d (q ∙ sym e))) (λ l. l) (List·Memᴰ·cases-cons k)
+without-other (List·Memᴰ·tail m) k d = ⊎-elim (λ q. List·Memᴰ·head q) (λ l. List·Memᴰ·tail (without-other m l d)) (List·Memᴰ·cases-cons k)
+
+no-longer : {xs : List ℕ} → Different xs → (ys : List ℕ) → Sub xs ys → length xs ≤ length ys
+no-longer nothing ys s = omega arith
+no-longer (another {x} {xs} f d) ys s =
+    let m = s x (List·Memᴰ·head refl) in
+    let h = no-longer d (without m) (λ y k. without-other m (s y (List·Memᴰ·tail k)) (λ e. f (rw e at k))) in
+    let l = without-length m in
+    omega arith
+
+-- the keys of rows in order, and of records of which no two have one key
+later-key : (x y : Row) → x.key < y.key → y.key ≡ x.key → ⊥
+later-key x y h e = omega arith
+
+rows-different : {rows : List Row} → Rising keyOf rows → Different (map keyOf rows)
+rows-different nil = nothing
+rows-different (cons {x} {xs} f r) =
+    another (λ m. let p = Memᴰ·of-map keyOf xs m in later-key x (p .0) (f (p .0) (p .1)) (p .2)) (rows-different r)
+
+records-different : {rs : List Record} → OneEach rs → Different (map recordKey rs)
+records-different none-left = nothing
+records-different (one-more {r} {rs} f d) = another (λ m. let p = Memᴰ·of-map recordKey rs m in f (p .0) (p .1) (p .2)) (records-different d)
+
+-- ---- lengths
+
+put-length : (r : Row) (qs : List Row) → length (putRow r qs) ≡ suc (length qs)
+unfolding putRow
+put-length r [] = refl
+put-length r (q ∷ qs) = go (ltb r.key q.key) (put-length r qs)
+  where
+    go : (t : Bool) → length (putRow r qs) ≡ suc (length qs) → length (if t then r ∷ q ∷ qs else q ∷ putRow r qs) ≡ suc (suc (length qs))
+    go true h = refl
+    go false h = ap suc h
+
+puts-length : (rs qs : List Row) → length (putRows rs qs) ≡ length rs + length qs
+unfolding putRows
+puts-length [] qs = omega arith
+puts-length (r ∷ rs) qs = put-length r (putRows rs qs) ∙ ap suc (puts-length rs qs) ∙ omega arith
+
+module _ (g : Register) (s : Sheet) where
+  -- the row's key is deleted
+  isGone : Row → Bool
+  isGone row = isDeleted (appliedTo (applied g s) row.key)
+
+  -- each old row is gone, or remains
+  split-length : (rows : List Row) → length (flat (rowAfter g s (applied g s)) rows) + length (keep isGone rows) ≡ length rows
+  unfolding flat keep isGone
+  split-length [] = refl
+  split-length (x ∷ xs) = go (isDeleted (appliedTo (applied g s) x.key)) refl (split-length xs)
+    where
+      go : (t : Bool) → isDeleted (appliedTo (applied g s) x.key) ≡ t
+          → length (flat (rowAfter g s (applied g s)) xs) + length (keep isGone xs) ≡ length xs
+          → length (flat (rowAfter g s (applied g s)) (x ∷ xs)) + length (if t then x ∷ keep isGone xs else keep isGone xs) ≡ suc (length xs)
+      go true e h = rw (gone g s (applied g s) x e) (omega arith)
+      go false e h = rw (remains g s (applied g s) x e) (omega arith)
+
+  isDelete : Record → Bool
+  isDelete r = eqb r.kind delete
+
+  isInsert : Record → Bool
+  isInsert r = eqb r.kind insert
+
+  module _ (soundG : soundRegister g ≡ true) (soundS : soundSheet s ≡ true) where
+    -- a row is gone for a delete of its key, and for each delete a row
+    gone-deletes : Sub (map keyOf (keep isGone g.rows)) (map recordKey (keep isDelete (applied g s)))
+    unfolding isGone isDelete isDeleted
+    gone-deletes k m =
+        let p = Memᴰ·of-map keyOf (keep isGone g.rows) m in
+        let q = keep→ isGone g.rows (p .1) in
+        go (p .0 .key) (appliedTo (applied g s) (p .0 .key)) refl (q .1) (p .2)
+      where
+        go : (x : ℕ) (o : Option Record) → appliedTo (applied g s) x ≡ o → isDeleted o ≡ true → x ≡ k → List·Memᴰ k (map recordKey (keep isDelete (applied g s)))
+        go x none e d c = absurd (false≢true d)
+        go x (some r) e d c =
+            let f = appliedTo→ (applied g s) x r e in Memᴰ·cast (sym c ∙ sym (f .1)) (Memᴰ·map recordKey (→keep isDelete (f .0) d))
+
+    deletes-gone : Sub (map recordKey (keep isDelete (applied g s))) (map keyOf (keep isGone g.rows))
+    unfolding isGone isDelete
+    deletes-gone k m =
+        let p = Memᴰ·of-map recordKey (keep isDelete (applied g s)) m in
+        let q = keep→ isDelete (applied g s) (p .1) in
+        let e : p .0 .kind ≡ delete = eqb-true (p .0 .kind) delete (q .1) in
+        let o = names-old g s soundS (p .0) (q .0) (λ i. absurd (omega arith)) in
+        let d : isGone (o .0) ≡ true = ap (λ (x : ℕ). isDeleted (appliedTo (applied g s) x)) (o .2) ∙ is-deleted g s soundS (p .0) (q .0) ∙ q .1 in
+        Memᴰ·cast (sym (p .2) ∙ sym (o .2)) (Memᴰ·map keyOf (→keep isGone (o .1) d))
+
+    as-many : length (keep isGone g.rows) ≡ length (keep isDelete (applied g s))
+    as-many =
+        let rising = rising→ keyOf 0 g.rows (soundRegister→ g soundG .keys) .0 in
+        let a = no-longer (rows-different (rising-keep keyOf isGone rising)) _ gone-deletes in
+        let b = no-longer (records-different (each-keep isDelete (applied-each g s soundS))) _ deletes-gone in
+        let c = length-map (keep isGone g.rows) keyOf in
+        let d = length-map (keep isDelete (applied g s)) recordKey in
+        omega arith
+
+    -- THE NEXT ROWS AND THE DELETES ARE AS MANY AS THE OLD ROWS AND THE INSERTS
+    pub next-count : length (nextRows g s) + count (λ r. eqb r.kind delete) (applied g s) ≡ length g.rows + count (λ r. eqb r.kind insert) (applied g s)
+    unfolding nextRows rowsAfter count isDelete isInsert
+    next-count =
+        let a = puts-length (map (insertedRow g s) (keep isInsert (applied g s))) (flat (rowAfter g s (applied g s)) g.rows) in
+        let b = length-map (keep isInsert (applied g s)) (insertedRow g s) in
+        let c = split-length g.rows in
+        let d = as-many in
+        omega arith
