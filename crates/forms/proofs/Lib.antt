@@ -1,0 +1,12 @@
+pub mod SheetPlaces
+pub mod RegisterBy
+pub mod RegisterWritten
+pub mod SheetWritten
+pub mod NextOf
+pub mod Loops
+pub mod Written
+pub mod RecordsBy
+pub mod SetsBy
+pub mod SheetBy
+pub mod SheetTests
+pub mod StreamLaws

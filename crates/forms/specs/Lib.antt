@@ -1,0 +1,4 @@
+pub mod SheetReadings
+pub mod RegisterForm
+pub mod SheetForm
+pub mod SheetLength
