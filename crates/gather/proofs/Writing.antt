@@ -1,0 +1,168 @@
+-- What one turn of a writing walk adds: an entry, a body; and what stands when all are written.
+use Prim.Native.Nat.{ℕ, _+_, _*_, _<_, _≤_}
+use mathlib.Core.Path.{_≡_, refl, sym, _∙_, ap}
+use mathlib.Core.Logic.{⊎-elim}
+use mathlib.Core.Bool.{true, false}
+use mathlib.Core.List.{List, [], _∷_, _++_, map, List·Memᴰ, List·Memᴰ·head, List·Memᴰ·tail, List·Memᴰ·append-cases}
+use native.Mathlib.Nat.{add-zero, zero-add}
+use native.Mathlib.Numerals.{add-one}
+use native.Mathlib.Omega.{arith}
+use lib.ListN.{length, getD, take, drop, length-drop}
+use lib.Seq.{length-take-le, take-suc, getD-drop}
+use Rattle.words.specs.Words.{Bytes, stored}
+use Rattle.words.proofs.Laws.{then-stored, length-stored}
+use Rattle.rules.specs.Lists.{flat, upFrom}
+use Rattle.rules.specs.Sheet.{WriteSet, Sheet, masters, recordsBytes, contentsFrom, bodies, sheetBytes, isSheet, sheetIn, soundSet}
+use Rattle.rules.specs.Gathering.{distinct, noNotices, soundOf, spoiledSheet}
+use Rattle.laws.specs.ListLaws.{all→, getD-upFrom}
+use Rattle.laws.specs.SheetLaws.{soundSet→, soundSheet→}
+use Rattle.laws.specs.Distinct.{distinct→}
+use Rattle.laws.specs.Joining.{noticeTogether, together, joinHeld}
+use Rattle.forms.specs.SheetReadings.{noSet, total, entryBytes, startBytes}
+use Rattle.forms.proofs.SheetWritten.{total-more, contents-more, bodies-more, sheet-stored, sheet-over}
+use Rattle.forms.proofs.SheetPlaces.{sheet-sound, total-mono, sheet-length}
+use Rattle.gather.specs.declared.place.Place.{Place}
+use Rattle.gather.specs.Walk.{behind, nextAt, Both, At, Ahead, Advanced, Room}
+use Rattle.gather.specs.OneSheet.{Written}
+use Rattle.gather.proofs.Steps.{from}
+
+-- ---- one more
+
+next-take : (ws : List WriteSet) (k : ℕ) → k < length ws → take (k + 1) ws ≡ take k ws ++ (getD ws k noSet ∷ [])
+next-take ws k h = ap (λ (n : ℕ). take n ws) (add-one k) ∙ take-suc ws k noSet h
+
+pub total-next : (ws : List WriteSet) (k : ℕ) → k < length ws → total (take (k + 1) ws) ≡ total (take k ws) + length (getD ws k noSet .records)
+total-next ws k h = ap total (next-take ws k h) ∙ total-more (take k ws) (getD ws k noSet)
+
+pub contents-next : (ws : List WriteSet) (k : ℕ) → k < length ws
+    → contentsFrom 0 (take (k + 1) ws) ≡ contentsFrom 0 (take k ws) ++ entryBytes (getD ws k noSet .csn) (getD ws k noSet .sen) (total (take k ws)) (length (getD ws k noSet .records))
+contents-next ws k h = ap (contentsFrom 0) (next-take ws k h) ∙ contents-more (take k ws) (getD ws k noSet)
+
+pub bodies-next : (ws : List WriteSet) (k : ℕ) → k < length ws → bodies (take (k + 1) ws) ≡ bodies (take k ws) ++ recordsBytes (getD ws k noSet .records)
+bodies-next ws k h = ap bodies (next-take ws k h) ∙ bodies-more (take k ws) (getD ws k noSet)
+
+-- ---- the walk, where k sets are passed
+
+module _ (a b : Bytes) (p : Place) (k : ℕ) (at : At a b p) (e : behind (sheetIn a) (sheetIn b) p ≡ drop k (together (sheetIn a) (sheetIn b))) (h : k < length (together (sheetIn a) (sheetIn b))) where
+  pub still-ahead : Ahead a b p
+  still-ahead = record { at = at; some = omega (arith, ap length e, length-drop k (together (sheetIn a) (sheetIn b))) }
+
+  pub next-is : nextAt (sheetIn a) (sheetIn b) p ≡ getD (together (sheetIn a) (sheetIn b)) k noSet
+  unfolding nextAt
+  next-is =
+      ap (λ (l : List WriteSet). getD l 0 noSet) e ∙ getD-drop k (together (sheetIn a) (sheetIn b)) 0 noSet
+      ∙ ap (λ (n : ℕ). getD (together (sheetIn a) (sheetIn b)) n noSet) (add-zero k)
+
+  pub behind-next : {q : Place} → Advanced a b p q → behind (sheetIn a) (sheetIn b) q ≡ drop (k + 1) (together (sheetIn a) (sheetIn b))
+  behind-next n = ap (drop 1) (sym (n .passed) ∙ e ∙ from (together (sheetIn a) (sheetIn b)) k h)
+
+-- ---- how many records
+
+total-short : (ws : List WriteSet) → ((w : WriteSet) → List·Memᴰ w ws → length w.records ≤ 8) → total ws ≤ 8 * length ws
+unfolding total
+total-short [] h = omega arith
+total-short (w ∷ ws) h = omega (arith, h w (List·Memᴰ·head refl), total-short ws (λ v m. h v (List·Memᴰ·tail m)))
+
+short : (b : Bytes) → isSheet b ≡ true → (w : WriteSet) → List·Memᴰ w (sheetIn b .sets) → length w.records ≤ 8
+short b e w m =
+    let s = sheetIn b in
+    soundSet→ s.epoch s.roster w (all→ (soundSet s.epoch s.roster) (soundSheet→ s (sheet-sound b e) .sets) m) .few
+
+-- eight a set, at most
+pub together-total : (a b : Bytes) → Both a b → total (together (sheetIn a) (sheetIn b)) ≤ 8 * length (together (sheetIn a) (sheetIn b))
+unfolding together
+together-total a b k =
+    total-short (distinct (sheetIn a .sets ++ sheetIn b .sets))
+    (λ w m. ⊎-elim (λ l. short a (k .one) w l) (λ l. short b (k .two) w l) (List·Memᴰ·append-cases (sheetIn a .sets) (distinct→ (sheetIn a .sets ++ sheetIn b .sets) m)))
+
+-- ---- the notices
+
+pub notices-next : (f : ℕ → ℕ) (m : ℕ) → m < 16 → take (m + 1) (map f masters) ≡ take m (map f masters) ++ (f m ∷ [])
+notices-next f m h =
+    let l : m < length (map f masters) = unfold upFrom in h in
+    ap (λ (n : ℕ). take n (map f masters)) (add-one m) ∙ take-suc (map f masters) m 0 l
+    ∙ ap (λ (n : ℕ). take m (map f masters) ++ (n ∷ [])) (getD-upFrom f 0 0 16 m h ∙ ap f (zero-add m))
+
+pub notices-length : (f : ℕ → ℕ) → length (map f masters) ≡ 16
+unfolding upFrom
+notices-length f = refl
+
+-- ---- one store more
+
+pub nothing-stored : (l : Bytes) (at : ℕ) → l ≡ stored l at []
+unfolding stored
+nothing-stored l at = refl
+
+pub one-more : (l₀ : Bytes) {l₁ l₂ : Bytes} (at k : ℕ) (xs ys zs : Bytes) → l₁ ≡ stored l₀ at xs → l₂ ≡ stored l₁ k ys → k ≡ at + length xs → zs ≡ xs ++ ys → l₂ ≡ stored l₀ at zs
+one-more l₀ at k xs ys zs p q e z = then-stored l₀ at k xs ys p q e ∙ ap (stored l₀ at) (sym z)
+
+pub as-long : (l₀ l₁ l₂ : Bytes) (k : ℕ) (ys : Bytes) → l₂ ≡ stored l₁ k ys → length l₁ ≡ length l₀ → length l₂ ≡ length l₀
+as-long l₀ l₁ l₂ k ys q e = ap length q ∙ length-stored l₁ k ys ∙ e
+
+-- an entry of the numbers that were read
+pub entry-is : (w v : WriteSet) (csn sen first n t : ℕ) → csn ≡ w.csn → sen ≡ w.sen → n ≡ length w.records → first ≡ t → w ≡ v
+    → entryBytes csn sen first n ≡ entryBytes v.csn v.sen t (length v.records)
+entry-is w v csn sen first n t p q r f e =
+    cc (ap (λ (x : WriteSet). x.csn) e, ap (λ (x : WriteSet). x.sen) e, ap (λ (x : WriteSet). length x.records) e)
+
+-- at most 512 records, in at most 64 sets
+module _ (a b : Bytes) (p : Place) (k : ℕ) (at : At a b p) (e : behind (sheetIn a) (sheetIn b) p ≡ drop k (together (sheetIn a) (sheetIn b))) (h : k < length (together (sheetIn a) (sheetIn b))) where
+  pub count-is : length (nextAt (sheetIn a) (sheetIn b) p .records) ≡ length (getD (together (sheetIn a) (sheetIn b)) k noSet .records)
+  count-is = ap (λ (w : WriteSet). length w.records) (next-is a b p k at e h)
+
+  pub fits-next : length (together (sheetIn a) (sheetIn b)) ≤ 64 → total (take k (together (sheetIn a) (sheetIn b))) + length (nextAt (sheetIn a) (sheetIn b) p .records) ≤ 512
+  fits-next l =
+      omega (
+        arith,
+        count-is,
+        total-mono (together (sheetIn a) (sheetIn b)) k h,
+        together-total a b (record { one = at .one; two = at .two }),
+      )
+
+pub take-few : (ws : List WriteSet) (k : ℕ) → k ≤ length ws → length (take k ws) ≡ k
+take-few ws k h = length-take-le k ws h
+
+-- ---- the whole sheet
+
+-- a sheet that fits, over what the buffer held
+written : (s : Sheet) (l₀ l : Bytes) (n : ℕ) → n ≡ length (sheetBytes s) → n ≤ length l₀ → l ≡ stored l₀ 0 (sheetBytes s) → Written s l₀ n l
+written s l₀ l n e h p = record { bytes = sheet-over l₀ s (omega arith) p; long = e }
+
+held-notices : (a b : Sheet) → length (joinHeld a b .notices) ≡ 16
+unfolding joinHeld soundOf
+held-notices a b = notices-length (noticeTogether a b)
+
+held-length : (a b : Sheet) → length (sheetBytes (joinHeld a b)) ≡ 24 + 16 * length (together a b) + 16 * total (together a b)
+unfolding joinHeld soundOf
+held-length a b = sheet-length (joinHeld a b) (held-notices a b)
+
+held-stored : (a b : Sheet) (l₀ : Bytes) {l₁ l₂ l₃ l₄ : Bytes} → l₁ ≡ stored l₀ 0 (startBytes a.epoch a.roster false (length (together a b)))
+    → l₂ ≡ stored l₁ 8 (map (noticeTogether a b) masters) → l₃ ≡ stored l₂ 24 (contentsFrom 0 (together a b))
+    → l₄ ≡ stored l₃ (24 + 16 * length (together a b)) (bodies (together a b)) → l₄ ≡ stored l₀ 0 (sheetBytes (joinHeld a b))
+unfolding joinHeld soundOf
+held-stored a b l₀ p q r t = sheet-stored l₀ (joinHeld a b) (held-notices a b) p q r t
+
+-- written part by part, by the numbers that code has
+pub held-written : (a b l₀ : Bytes) {l₁ l₂ l₃ l₄ : Bytes} (e r n t : ℕ) → Room a b n l₀ → e ≡ sheetIn a .epoch → r ≡ sheetIn a .roster → t ≡ total (together (sheetIn a) (sheetIn b))
+    → l₁ ≡ stored l₀ 0 (startBytes e r false n) → l₂ ≡ stored l₁ 8 (map (noticeTogether (sheetIn a) (sheetIn b)) masters)
+    → l₃ ≡ stored l₂ 24 (contentsFrom 0 (together (sheetIn a) (sheetIn b))) → l₄ ≡ stored l₃ (24 + 16 * n) (bodies (together (sheetIn a) (sheetIn b)))
+    → Written (joinHeld (sheetIn a) (sheetIn b)) l₀ (24 + 16 * n + 16 * t) l₄
+held-written a b l₀ {l₁} {l₂} {l₃} {l₄} e r n t k p q f g h i j =
+    let d = together (sheetIn a) (sheetIn b) in
+    let m = k .count in
+    written (joinHeld (sheetIn a) (sheetIn b)) l₀ l₄ (24 + 16 * n + 16 * t) (omega (arith, held-length (sheetIn a) (sheetIn b)))
+    (omega (arith, k .few, k .room, together-total a b (k .sheets)))
+    (held-stored (sheetIn a) (sheetIn b) l₀ (rw (p, q, m) at g) h i (rw m at j))
+
+spoiled-length : (e r : ℕ) → 24 ≡ length (sheetBytes (spoiledSheet e r))
+unfolding spoiledSheet total
+spoiled-length e r = sym (sheet-length (spoiledSheet e r) refl)
+
+spoiled-stored : (e r : ℕ) (l₀ : Bytes) {l₁ l₂ : Bytes} → l₁ ≡ stored l₀ 0 (startBytes e r true 0) → l₂ ≡ stored l₁ 8 noNotices → l₂ ≡ stored l₀ 0 (sheetBytes (spoiledSheet e r))
+unfolding spoiledSheet contentsFrom bodies flat
+spoiled-stored e r l₀ {l₁} {l₂} p q = sheet-stored l₀ (spoiledSheet e r) refl p q (nothing-stored l₂ 24) (nothing-stored l₂ 24)
+
+pub spoiled-written : (s : Sheet) (l₀ : Bytes) {l₁ l₂ : Bytes} (e r : ℕ) → e ≡ s.epoch → r ≡ s.roster → 24 ≤ length l₀
+    → l₁ ≡ stored l₀ 0 (startBytes e r true 0) → l₂ ≡ stored l₁ 8 noNotices → Written (spoiledSheet s.epoch s.roster) l₀ 24 l₂
+spoiled-written s l₀ {l₁} {l₂} e r p q h f g =
+    written (spoiledSheet s.epoch s.roster) l₀ l₂ 24 (spoiled-length s.epoch s.roster) h (spoiled-stored s.epoch s.roster l₀ (rw (p, q) at f) g)

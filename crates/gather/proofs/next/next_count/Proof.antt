@@ -1,0 +1,37 @@
+-- Read from the sheet that the next set is taken from.
+use mathlib.Core.Path.{sym, _∙_, ap}
+use lib.ListN.{length}
+use denote.Ref.{now}
+use borrow.Author.Needs.{needs}
+use Rattle.rules.specs.Sheet.{WriteSet}
+use Rattle.gather.proofs.Steps.{is-first, is-second}
+use Rattle.gather.proofs.next.next_count.Statement.{statement}
+use Rattle.gather.proofs.next.next_count.Tie as tie
+
+from-first-requires : tie.Need-from-first-requires
+from-first-requires c κs = search needs
+
+record-count-requires : tie.Need-record-count-requires
+record-count-requires c κs =
+    let s = c .before .before .before .before in
+    (s .pre .at .one, is-first (now (s .args .a)) (now (s .args .b)) (s .args .p) _ (c .before .from-first .ensures) (c .if1 .taken) .0)
+
+returns : tie.Need-returns
+returns c =
+    let s = c .before .before .before .before .before in
+    c .record-count .ensures ∙ sym (ap (λ (w : WriteSet). length w.records) (is-first (now (s .args .a)) (now (s .args .b)) (s .args .p) _ (c .before .before .from-first .ensures) (c .before .if1 .taken) .1))
+
+record-count-requires-2 : tie.Need-record-count-requires-2
+record-count-requires-2 c κs =
+    let s = c .before .before .before .before in
+    (s .pre .at .two, is-second (now (s .args .a)) (now (s .args .b)) (s .args .p) _ (c .before .from-first .ensures) (c .if1 .left) .0)
+
+returns-2 : tie.Need-returns-2
+returns-2 c =
+    let s = c .before .before .before .before .before in
+    c .record-count2 .ensures ∙ sym (ap (λ (w : WriteSet). length w.records) (is-second (now (s .args .a)) (now (s .args .b)) (s .args .p) _ (c .before .before .from-first .ensures) (c .before .if1 .left) .1))
+
+pub next-count-spec : {M : Type 1} → statement M
+next-count-spec =
+    tie.close
+    (tie.spec from-first-requires record-count-requires returns record-count-requires-2 returns-2)

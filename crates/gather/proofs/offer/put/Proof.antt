@@ -1,0 +1,72 @@
+-- Refused in the order of the numbers, or joined with the sheet of the one offer.
+use native.Mathlib.Omega.{arith}
+use mathlib.Core.Path.{_∙_, sym}
+use Rattle.laws.specs.Says.{said-no, said-yes}
+use Rattle.rules.specs.declared.answer.Refusal.the-variants.{SheetIllFormed, OfferIllFormed}
+use Rattle.laws.specs.Settled.{refuses, writes}
+use Rattle.gather.proofs.OfferLaws.{put-2, put-3, put-to, refused-by, granted-by, grant}
+use borrow.Author.Needs.{needs}
+use Rattle.gather.proofs.offer.put.Statement.{statement}
+use Rattle.gather.proofs.offer.put.Tie as tie
+
+is-sheet-requires : tie.Need-is-sheet-requires
+is-sheet-requires c κs = search needs
+
+returns : tie.Need-returns
+returns c = refuses _ SheetIllFormed _ (put-2 _ _ _ _ _ _ (said-no (c .before .is-sheet .ensures) (c .if1 .taken)))
+
+is-set-requires : tie.Need-is-set-requires
+is-set-requires c κs = search needs
+
+returns-2 : tie.Need-returns-2
+returns-2 c = refuses _ OfferIllFormed _ (put-3 _ _ _ _ _ _ (said-yes (c .before .before .before .is-sheet .ensures) (c .before .before .if1 .left)) (said-no (c .before .is-set .ensures) (c .if2 .taken)))
+
+cast-admit : tie.Need-cast-admit
+cast-admit c = search needs
+
+admit-requires : tie.Need-admit-requires
+admit-requires c κs = ((said-yes (c .before .before .before .is-sheet .ensures) (c .before .before .if1 .left)), omega arith)
+
+enum-known-x : tie.Need-enum-known-x
+enum-known-x c = search needs
+
+enum-told : tie.Need-enum-told
+enum-told c = search needs
+
+add-set-requires : tie.Need-add-set-requires
+add-set-requires c κs =
+    ((said-yes (c .before .before .before .before .before .before .before .is-sheet .ensures) (c .before .before .before .before .before .before .if1 .left)), (said-yes (c .before .before .before .before .before .is-set .ensures) (c .before .before .before .before .if2 .left)), grant _ _ _ _ (sym (c .before .before .before .admit .ensures) ∙ c .before .enum-told .given .1))
+
+returns-3 : tie.Need-returns-3
+returns-3 c =
+    refuses _ _ _
+    (put-to _ _ _ _ _ _ (said-yes (c .before .before .before .before .before .before .before .is-sheet .ensures) (c .before .before .before .before .before .before .if1 .left)) (said-yes (c .before .before .before .before .before .is-set .ensures) (c .before .before .before .before .if2 .left))
+    ∙ refused-by _ _ _ _ _ (c .before .x .given .0 .0) (sym (c .before .before .before .admit .ensures) ∙ c .before .x .given .1))
+
+same-length : tie.Need-same-length
+same-length c = search needs
+
+returns-4 : tie.Need-returns-4
+returns-4 c =
+    let w = c .before .before .add-set .ensures in
+    writes _ _ _ _ _
+    (put-to _ _ _ _ _ _ (said-yes (c .before .before .before .before .before .before .before .before .before .before .is-sheet .ensures) (c .before .before .before .before .before .before .before .before .before .if1 .left)) (said-yes (c .before .before .before .before .before .before .before .before .is-set .ensures) (c .before .before .before .before .before .before .before .if2 .left))
+    ∙ granted-by _ _ _ _ _ (sym (c .before .before .before .before .before .before .admit .ensures) ∙ c .before .before .before .before .enum-told .given .1))
+    (w .long) (w .bytes)
+
+pub put-spec : {M : Type 1} → statement M
+put-spec =
+    tie.close
+    (tie.spec
+    is-sheet-requires
+    returns
+    is-set-requires
+    returns-2
+    cast-admit
+    admit-requires
+    enum-known-x
+    enum-told
+    add-set-requires
+    returns-3
+    same-length
+    returns-4)

@@ -1,0 +1,40 @@
+-- Opening refuses as the paper does, and writes the empty sheet.
+use Rattle.gather.proofs.OneLaws.{no-epoch, no-roster, no-room, opened}
+use borrow.Author.Needs.{needs}
+use Rattle.gather.proofs.opening.open.Statement.{statement}
+use Rattle.gather.proofs.opening.open.Tie as tie
+
+returns : tie.Need-returns
+returns c = no-epoch _ _ _ (c .if1 .taken)
+
+returns-2 : tie.Need-returns-2
+returns-2 c = no-roster _ _ _ (c .before .if1 .left) (c .if2 .taken)
+
+returns-3 : tie.Need-returns-3
+returns-3 c = no-room _ _ _ (c .before .before .if1 .left) (c .before .if2 .left) (c .if3 .taken)
+
+put-sheet-start-requires : tie.Need-put-sheet-start-requires
+put-sheet-start-requires c κs = search needs
+
+put-no-notices-requires : tie.Need-put-no-notices-requires
+put-no-notices-requires c κs = search needs
+
+same-length : tie.Need-same-length
+same-length c = search needs
+
+returns-4 : tie.Need-returns-4
+returns-4 c =
+    let s = c .before .before .before .before .before .before .before .before in
+    opened _ _ _ (s .before .before .if1 .left) (s .before .if2 .left) (s .if3 .left) (c .before .before .before .before .before .before .put-sheet-start .ensures) (c .before .before .put-no-notices .ensures)
+
+pub open-spec : {M : Type 1} → statement M
+open-spec =
+    tie.close
+    (tie.spec
+    returns
+    returns-2
+    returns-3
+    put-sheet-start-requires
+    put-no-notices-requires
+    same-length
+    returns-4)

@@ -1,0 +1,80 @@
+// The sheet that two sheets are joined to if nothing spoils it, written straight into the lent bytes: head, contents, bodies.
+use crate::next::next_count;
+use crate::next::next_csn;
+use crate::next::next_records;
+use crate::next::next_sen;
+use crate::notices::notice_together;
+use crate::place::Place;
+use crate::place::advance;
+use forms::epoch;
+use forms::put_body;
+use forms::put_entry;
+use forms::put_notice;
+use forms::put_sheet_start;
+use forms::roster;
+ghost use mathlib.Core.Path.{_≡_};
+ghost use mathlib.Core.List.{map};
+ghost use Prim.Native.Nat.{_+_, _*_, _≤_};
+ghost use lib.ListN.{length};
+ghost use Rattle.words.specs.Words.{stored};
+ghost use Rattle.rules.specs.Sheet.{sheetIn, masters, contentsFrom, bodies};
+ghost use Rattle.laws.specs.Joining.{noticeTogether, together, joinHeld};
+ghost use Rattle.forms.specs.SheetReadings.{total};
+ghost use Rattle.gather.specs.Walk.{Both, Room};
+ghost use Rattle.gather.specs.OneSheet.{Written};
+
+fn put_notices(a: &[u8], b: &[u8], out: &mut [u8])
+    requires { ⌜ (Both (now a) (now b)) × (24 ≤ length (now out)) ⌝ }
+    ensures { λ _. ⌜ now (out .exit) ≡ stored (now (out .entry)) 8 (map (noticeTogether (sheetIn (now (a .entry))) (sheetIn (now (b .entry)))) masters) ⌝ }
+{
+    let mut m: usize = 0;
+    while m < 16 {
+        put_notice(out, m, notice_together(a, b, m));
+        m += 1;
+    }
+}
+
+// How many records the sets have together is handed back.
+fn put_contents(a: &[u8], b: &[u8], n: usize, out: &mut [u8]) -> usize
+    requires { ⌜ Room (now a) (now b) n (now out) ⌝ }
+    ensures { λ r. ⌜ (r ≡ total (together (sheetIn (now (a .entry))) (sheetIn (now (b .entry))))) × (now (out .exit) ≡ stored (now (out .entry)) 24 (contentsFrom 0 (together (sheetIn (now (a .entry))) (sheetIn (now (b .entry)))))) ⌝ }
+{
+    let mut p = Place { i: 0, j: 0 };
+    let mut k: usize = 0;
+    let mut first: usize = 0;
+    while k < n {
+        let count = next_count(a, b, p);
+        put_entry(out, k, next_csn(a, b, p), next_sen(a, b, p), first, count);
+        p = advance(a, b, p);
+        k += 1;
+        first += count;
+    }
+    first
+}
+
+fn put_bodies<'a>(a: &'a [u8], b: &'a [u8], n: usize, out: &mut [u8])
+    requires { ⌜ Room (now a) (now b) n (now out) ⌝ }
+    ensures { λ _. ⌜ now (out .exit) ≡ stored (now (out .entry)) (24 + 16 * n) (bodies (together (sheetIn (now (a .entry))) (sheetIn (now (b .entry))))) ⌝ }
+{
+    let mut p = Place { i: 0, j: 0 };
+    let mut k: usize = 0;
+    let mut first: usize = 0;
+    while k < n {
+        put_body(out, n, first, next_records(a, b, p));
+        first += next_count(a, b, p);
+        p = advance(a, b, p);
+        k += 1;
+    }
+}
+
+// The length written is handed back.
+pub fn put_held<'a>(a: &'a [u8], b: &'a [u8], n: usize, out: &mut [u8]) -> usize
+    requires { ⌜ Room (now a) (now b) n (now out) ⌝ }
+    ensures { λ r. ⌜ Written (joinHeld (sheetIn (now (a .entry))) (sheetIn (now (b .entry)))) (now (out .entry)) r (now (out .exit)) ⌝ }
+{
+    put_sheet_start(out, epoch(a), roster(a), false, n);
+    put_notices(a, b, out);
+    let records = put_contents(a, b, n, out);
+    put_bodies(a, b, n, out);
+    24 + 16 * n + 16 * records
+}

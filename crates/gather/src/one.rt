@@ -1,0 +1,38 @@
+// The sheet of one offer, written into a small buffer: putting an offer in is joining with it.
+use forms::put_body;
+use forms::put_entry;
+use forms::put_no_notices;
+use forms::put_notices;
+use forms::put_sheet_start;
+ghost use mathlib.Core.Path.{_≡_};
+ghost use mathlib.Core.Bool.{true};
+ghost use Prim.Native.Nat.{_≤_, _<_};
+ghost use lib.ListN.{length};
+ghost use Rattle.rules.specs.Sheet.{areRecords};
+ghost use Rattle.gather.specs.OneSheet.{Small, ofSet, ofNotice};
+
+// One set: 24 bytes of head, 16 of contents, and its records.
+pub fn one_set(out: &mut [u8], epoch: u32, roster: u16, sen: u32, csn: u64, records: &[u8]) -> usize
+    requires { ⌜ (length (now out) ≡ 168) × (areRecords (now records) ≡ true) ⌝ }
+    ensures { λ r. ⌜ Small (ofSet epoch roster sen csn (now (records .entry))) (now (out .entry)) r (now (out .exit)) ⌝ }
+{
+    let n = records.len() / 16;
+    put_sheet_start(out, epoch, roster, false, 1);
+    put_no_notices(out);
+    put_entry(out, 0, csn, sen, 0, n);
+    put_body(out, 1, 0, records);
+    40 + records.len()
+}
+
+// One notice: the head alone.
+pub fn one_notice(out: &mut [u8], epoch: u32, roster: u16, master: u8, count: u8) -> usize
+    requires { ⌜ (length (now out) ≡ 168) × (master < 16) × (count ≤ 64) ⌝ }
+    ensures { λ r. ⌜ Small (ofNotice epoch roster master count) (now (out .entry)) r (now (out .exit)) ⌝ }
+{
+    let m = master as usize;
+    let mut notices = [255u8; 16];
+    notices[m] = count;
+    put_sheet_start(out, epoch, roster, false, 0);
+    put_notices(out, &notices);
+    24
+}

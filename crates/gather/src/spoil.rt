@@ -1,0 +1,25 @@
+// The four reasons for which two sheets spoil the sheet that they are joined to.
+use crate::clash::clashes;
+use crate::count::count;
+use crate::notices::notices_differ;
+use crate::notices::over_notice;
+ghost use mathlib.Core.Path.{_≡_};
+ghost use Rattle.rules.specs.Sheet.{sheetIn};
+ghost use Rattle.laws.specs.Joining.{joinSpoils};
+ghost use Rattle.gather.specs.Walk.{Both};
+
+pub fn spoils(a: &[u8], b: &[u8]) -> bool
+    requires { ⌜ Both (now a) (now b) ⌝ }
+    ensures { λ r. ⌜ r ≡ joinSpoils (sheetIn (now (a .entry))) (sheetIn (now (b .entry))) ⌝ }
+{
+    if clashes(a, b) {
+        return true;
+    }
+    if notices_differ(a, b) {
+        return true;
+    }
+    if 64 < count(a, b) {
+        return true;
+    }
+    over_notice(a, b)
+}
