@@ -1,0 +1,54 @@
+-- Both buffers are written, and their lengths told.
+use native.Mathlib.Omega.{arith}
+use denote.Ref.{now}
+use Rattle.rules.specs.Register.{registerIn}
+use Rattle.rules.specs.Sheet.{sheetIn}
+use Rattle.forms.proofs.SheetPlaces.{few-sets}
+use Rattle.closing.proofs.CloseLaws.{closes}
+use borrow.Author.Needs.{needs}
+use Rattle.closing.proofs.epoch.write.Statement.{statement}
+use Rattle.closing.proofs.epoch.write.Tie as tie
+
+put-next-requires : tie.Need-put-next-requires
+put-next-requires c κs = search needs
+
+put-verdicts-requires : tie.Need-put-verdicts-requires
+put-verdicts-requires c κs = search needs
+
+length-of-requires : tie.Need-length-of-requires
+length-of-requires c κs = search needs
+
+set-count-requires : tie.Need-set-count-requires
+set-count-requires c κs = search needs
+
+verdicts-length-requires : tie.Need-verdicts-length-requires
+verdicts-length-requires c κs = omega (arith, few-sets _ (c .before .before .before .before .before .before .before .before .before .before .before .before .before .before .before .before .pre .0 .is-sheet))
+
+same-length : tie.Need-same-length
+same-length c = search needs
+
+same-length-2 : tie.Need-same-length-2
+same-length-2 c = search needs
+
+returns : tie.Need-returns
+returns c =
+    let b = c .before .before .before .before .before .before .before .before .before .before .before .before .before .before .before .before .before in
+    let j = b .pre .0 in
+    let e = b .pre .2 in
+    closes (registerIn (now (b .args .register))) (sheetIn (now (b .args .sheet))) (omega arith) (few-sets _ (j .is-sheet)) (now (b .args .next)) (now (b .args .verdicts)) _ _ (b .pre .4) (b .pre .5)
+    (omega (arith, c .before .before .length-of .ensures)) (omega (arith, c .verdicts-length .ensures, c .before .set-count .ensures))
+    (c .before .before .before .before .before .before .before .before .before .put-next .ensures)
+    (c .before .before .before .before .before .put-verdicts .ensures _ (j .tells-wrong) (j .tells-lost))
+
+pub write-spec : {M : Type 1} → statement M
+write-spec =
+    tie.close
+    (tie.spec
+    put-next-requires
+    put-verdicts-requires
+    length-of-requires
+    set-count-requires
+    verdicts-length-requires
+    same-length
+    same-length-2
+    returns)
