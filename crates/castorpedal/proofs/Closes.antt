@@ -1,0 +1,97 @@
+-- Closing writes no more than a register and 64 verdicts may have, so its lengths fit the C struct; and how its export keeps its promise.
+use Prim.Native.Nat.{ℕ, _+_, _*_, _≤_}
+use mathlib.Core.Path.{_≡_, refl, sym, _∙_, ap}
+use mathlib.Core.Bool.{Bool, true, false, not}
+use mathlib.Core.List.{List, [], _∷_, map}
+use mathlib.Core.Option.{Option, none, some}
+use native.Mathlib.Omega.{arith}
+use borrow.Author.Tests.{ltb-false}
+use lib.ListN.{length, length-append}
+use lib.Dec.{ltb, eqb}
+use Rattle.words.specs.Words.{Bytes, le}
+use Rattle.words.proofs.Laws.{le-length}
+use Rattle.rules.specs.declared.answer.Refusal.{Refusal}
+use Rattle.rules.specs.declared.answer.Verdict.{Verdict}
+use Rattle.rules.specs.declared.answer.Closed.{Closed}
+use Rattle.rules.specs.declared.answer.Closed.the-variants.{Wrote, Refused}
+use Rattle.rules.specs.Answers.{closedNumbers, refusalNumber, verdictKey}
+use Rattle.rules.specs.Lists.{_or_, if_then_else_, flat}
+use Rattle.rules.specs.Register.{Register, maxRows, registerBytes, readRegister}
+use Rattle.rules.specs.Sheet.{Sheet, WriteSet, readSheet}
+use Rattle.rules.specs.Closing.{complete, nextRows, next, verdict, verdicts}
+use Rattle.rules.specs.Refused.{Outcome, refused, done, Closing, registerRoom, verdictRoom, verdictBytes, closing, closeSheet, closeOutcome}
+use Rattle.rules.specs.Promises.{toldClosing, ClosePromise}
+use Rattle.laws.specs.RegisterLaws.{register-length}
+use Rattle.laws.specs.SheetLaws.{soundSheet→, written-read}
+use Rattle.castorpedal.specs.declared.answer.CClosed.{CClosed}
+use Rattle.castorpedal.specs.Exported.{WithinClosed, ToldClosed, KeptClose}
+use Rattle.castorpedal.proofs.Rooms.{refused-not}
+
+-- ---- what closing writes
+
+done-same : {c d : Closing} → done c ≡ done d → c ≡ d
+done-same p = cc
+
+-- one refusal passed
+passed : (t : Bool) (n : ℕ) (x : Outcome Closing) (c : Closing) → (if t then refused n else x) ≡ done c → (t ≡ false) × (x ≡ done c)
+passed true n x c p = absurd (refused-not p)
+passed false n x c p = (refl, p)
+
+-- five bytes a verdict, one a set
+verdicts-length : (f : WriteSet → Verdict) (ws : List WriteSet) → length (flat verdictBytes (map f ws)) ≡ 5 * length ws
+unfolding flat verdictBytes
+verdicts-length f [] = refl
+verdicts-length f (w ∷ ws) = length-append (verdictBytes (f w)) (flat verdictBytes (map f ws)) ∙ omega (arith, le-length 4 (verdictKey (f w)), verdicts-length f ws)
+
+-- a closing whose lengths are at most those of a register and of 64 verdicts
+abbrev pub Small : Closing → Type 0
+Small c = (length c.register ≤ registerRoom) × (length c.verdicts ≤ verdictRoom)
+
+small : (g : Register) (s : Sheet) → length (nextRows g s) ≤ maxRows → length s.sets ≤ 64 → Small (closing g s)
+unfolding closing next verdicts
+small g s h k = (omega (arith, register-length (next g s)), omega (arith, verdicts-length (verdict g s) s.sets))
+
+close→ : (g : Register) (s : Sheet) (nextRoom room : ℕ) (c : Closing) → closeSheet (some g) (some s) nextRoom room ≡ done c → (length (nextRows g s) ≤ maxRows) × (closing g s ≡ c)
+unfolding closeSheet
+close→ g s nextRoom room c p =
+    let p₁ = passed (not (eqb s.epoch (g.snapshot + 1))) 4 _ c p in
+    let p₂ = passed s.spoiled 6 _ c (p₁ .1) in
+    let p₃ = passed (not (complete s)) 7 _ c (p₂ .1) in
+    let p₄ = passed (ltb maxRows (length (nextRows g s))) 8 _ c (p₃ .1) in
+    let p₅ = passed (ltb nextRoom registerRoom or ltb room verdictRoom) 9 _ c (p₄ .1) in
+    (ltb-false _ _ (p₄ .0), done-same (p₅ .1))
+
+pub close-fits : (register sheet : Bytes) (nextRoom room : ℕ) (c : Closing) → closeOutcome register sheet nextRoom room ≡ done c → Small c
+unfolding closeOutcome
+close-fits register sheet nextRoom room c p = go (readRegister register) (readSheet sheet) refl p
+  where
+    go : (x : Option Register) (y : Option Sheet) → readSheet sheet ≡ y → closeSheet x y nextRoom room ≡ done c → Small c
+    go none y q h = absurd (unfold closeSheet in refused-not h)
+    go (some g) none q h = absurd (unfold closeSheet in refused-not h)
+    go (some g) (some s) q h =
+        let p = close→ g s nextRoom room c h in
+        let w = small g s (p .0) (soundSheet→ s (written-read sheet s q .1) .few) in
+        rw (p .1) at w
+
+-- ---- how the export keeps its promise
+
+pub within-closed : (o : Outcome Closing) (a : Closed) → closedNumbers a ≡ toldClosing o → ((c : Closing) → o ≡ done c → Small c) → WithinClosed a
+unfolding toldClosing
+within-closed (refused n) (Wrote k m) p f = let q = ap (λ (x : ℕ × ℕ × ℕ). x .1) p in let r = ap (λ (x : ℕ × ℕ × ℕ). x .2) p in omega arith
+within-closed (done c) (Wrote k m) p f = let q = ap (λ (x : ℕ × ℕ × ℕ). x .1) p in let r = ap (λ (x : ℕ × ℕ × ℕ). x .2) p in omega (arith, f c refl)
+within-closed o (Refused x) p f = tt
+
+pub kept-close : (o : Outcome Closing) (before-next before-verdicts : Bytes) {a : Closed} {r : CClosed} {after-next after-verdicts : Bytes}
+    → ClosePromise o before-next before-verdicts a after-next after-verdicts → ToldClosed a r → KeptClose o before-next before-verdicts r after-next after-verdicts
+kept-close o before-next before-verdicts p t = record { answered = t .numbers ∙ p .answered; next = p .next; verdicts = p .verdicts }
+
+-- ---- an answer's cases
+
+pub wrote-within : {a : Closed} {n m : ℕ} → WithinClosed a → a ≡ Wrote n m → (n ≤ registerRoom) × (m ≤ verdictRoom)
+wrote-within w p = rw p at w
+
+pub wrote-told : {a : Closed} {n m : ℕ} → a ≡ Wrote n m → ToldClosed a (record { code = 0; «register_len» = n; «verdicts_len» = m })
+wrote-told p = record { numbers = sym (ap closedNumbers p) }
+
+pub refused-told : {a : Closed} {x : Refusal} {n : ℕ} → a ≡ Refused x → n ≡ refusalNumber x → ToldClosed a (record { code = n; «register_len» = 0; «verdicts_len» = 0 })
+refused-told p q = record { numbers = ap (λ (k : ℕ). (k, 0, 0)) q ∙ sym (ap closedNumbers p) }

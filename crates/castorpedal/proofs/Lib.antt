@@ -1,0 +1,3 @@
+pub mod Rooms
+pub mod Checks
+pub mod Closes

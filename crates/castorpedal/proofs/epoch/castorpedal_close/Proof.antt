@@ -1,0 +1,28 @@
+-- The lengths fit, and the numbers are the answer's.
+use Rattle.castorpedal.proofs.Closes.{close-fits, within-closed, kept-close}
+use borrow.Author.Needs.{needs}
+use Rattle.castorpedal.proofs.epoch.castorpedal_close.Statement.{statement}
+use Rattle.castorpedal.proofs.epoch.castorpedal_close.Tie as tie
+use Rattle.castorpedal.proofs.epoch.castorpedal_close.Reads as reads
+use Rattle.castorpedal.proofs.epoch.castorpedal_close.Lts as lts
+use Rattle.castorpedal.proofs.answer.closed.Reads as closed-reads
+use Rattle.closing.proofs.close.Reads as close-reads
+
+close-requires : tie.Need-close-requires
+close-requires c κs = search needs
+
+closed-requires : tie.Need-closed-requires
+closed-requires c κs = let w = c .before .before .before .before .close in within-closed _ (w .result) (w .ensures .answered) (close-fits _ _ _ _)
+
+same-length : tie.Need-same-length
+same-length c = search needs
+
+same-length-2 : tie.Need-same-length-2
+same-length-2 c = search needs
+
+returns : tie.Need-returns
+returns c = kept-close _ _ _ (c .before .before .before .before .before .close .ensures) (c .closed .ensures)
+
+pub castorpedal-close-spec : {M : Type 1} → statement M
+castorpedal-close-spec =
+    tie.close (tie.spec close-requires closed-requires same-length same-length-2 returns)
