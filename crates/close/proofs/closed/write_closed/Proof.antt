@@ -1,0 +1,91 @@
+-- What closing wrote is what the report is of.
+use native.Mathlib.Omega.{arith}
+use lib.ListN.{length-take}
+use mathlib.Core.Path.{_∙_, ap}
+use denote.Ref.{now}
+use Rattle.report.specs.Report.{refusedText}
+use Rattle.close.proofs.PrintLaws.{Written, closed-written, refused-text, put-as}
+use borrow.Author.Needs.{needs}
+use Rattle.close.proofs.closed.write_closed.Statement.{statement}
+use Rattle.close.proofs.closed.write_closed.Tie as tie
+use Rattle.close.proofs.closed.write_closed.Reads as reads
+use Rattle.close.proofs.closed.write_closed.Lts as lts
+use Rattle.closing.proofs.close.Reads as close-reads
+use Rattle.report.proofs.put_refused.Reads as put-refused-reads
+use Rattle.report.proofs.write_report.Reads as write-report-reads
+use Rattle.rules.proofs.answer.Refusal.number.Reads as number-reads
+
+slice-aggregate-close : tie.Need-slice-aggregate-close
+slice-aggregate-close c = search needs
+
+slice-aggregate-close-2 : tie.Need-slice-aggregate-close-2
+slice-aggregate-close-2 c = search needs
+
+close-requires : tie.Need-close-requires
+close-requires c κs = search needs
+
+enum-known-answer : tie.Need-enum-known-answer
+enum-known-answer c = search needs
+
+-- what closing left, once it has written
+wrote : (c : lts.After-known-told (close-reads.Asked, close-reads.Learnt, write-report-reads.Asked, write-report-reads.Learnt, number-reads.Asked, number-reads.Learnt, put-refused-reads.Asked, put-refused-reads.Learnt) reads.Pre reads.Post)
+    → let a = c .before .before .before .before .before .before .before .before .before .before .before .args in let k = c .before .before .before .before .before .close .last .1 .1 in Written (now (a .register)) (now (a .sheet)) (k .0) (k .1 .0) (c .before .answer .given .0 .0)
+wrote c =
+    let a = c .before .before .before .before .before .before .before .before .before .before .before .args in
+    closed-written (now (a .register)) (now (a .sheet)) _ _ _ _ (search needs) (search needs) (c .before .before .before .before .before .close .ensures) (c .before .answer .given .1)
+
+array-share-prefix-next : tie.Need-array-share-prefix-next
+array-share-prefix-next c = wrote c .within
+
+slice-aggregate-write-report : tie.Need-slice-aggregate-write-report
+slice-aggregate-write-report c = simp length-take (omega (arith, wrote (c .before) .within))
+
+slice-aggregate-write-report-2 : tie.Need-slice-aggregate-write-report-2
+slice-aggregate-write-report-2 c = search needs
+
+write-report-requires : tie.Need-write-report-requires
+write-report-requires c κs = let w = wrote (c .before .before .before) in (w .is-next, w .is-sheet, w .enough, search needs)
+
+enum-known-answer-2 : tie.Need-enum-known-answer-2
+enum-known-answer-2 c = search needs
+
+number-requires : tie.Need-number-requires
+number-requires c κs = search needs
+
+put-refused-requires : tie.Need-put-refused-requires
+put-refused-requires c κs = search needs
+
+same-length : tie.Need-same-length
+same-length c = search needs
+
+returns : tie.Need-returns
+returns c = (put-as (wrote (c .before .before .before .before .before .before) .text) (c .before .before .write-report .ensures .0), search needs)
+
+same-length-2 : tie.Need-same-length-2
+same-length-2 c = search needs
+
+returns-2 : tie.Need-returns-2
+returns-2 c =
+    let a = c .before .before .before .before .before .before .before .before .before .before .before .before .before .before .before .before .args in
+    let e = refused-text (now (a .register)) (now (a .sheet)) _ _ _ (search needs) (search needs) (c .before .before .before .before .before .before .before .before .before .before .close .ensures) (c .before .before .before .before .before .before .answer2 .given .1) in
+    (put-as (ap refusedText (c .before .before .before .number .ensures) ∙ e) (c .before .before .put-refused .ensures .0), omega (arith, c .before .before .put-refused .ensures .1))
+
+pub write-closed-spec : {M : Type 1} → statement M
+write-closed-spec =
+    tie.close
+    (tie.spec
+    slice-aggregate-close
+    slice-aggregate-close-2
+    close-requires
+    enum-known-answer
+    array-share-prefix-next
+    slice-aggregate-write-report
+    slice-aggregate-write-report-2
+    write-report-requires
+    enum-known-answer-2
+    number-requires
+    put-refused-requires
+    same-length
+    returns
+    same-length-2
+    returns-2)

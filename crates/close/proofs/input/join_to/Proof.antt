@@ -1,0 +1,77 @@
+-- Joined into a buffer of its own, and copied from there.
+use native.Mathlib.Omega.{arith}
+use lib.ListN.{length-take}
+use mathlib.Core.Path.{ap}
+use Rattle.rules.specs.Refused.{joinOutcome}
+use Rattle.close.proofs.JoinsLaws.{fits-in, joined-in, not-joined, joins-as}
+use borrow.Author.Needs.{needs}
+use Rattle.close.proofs.input.join_to.Statement.{statement}
+use Rattle.close.proofs.input.join_to.Tie as tie
+
+slice-reshare-prefix-join : tie.Need-slice-reshare-prefix-join
+slice-reshare-prefix-join c = search needs
+
+slice-aggregate-join : tie.Need-slice-aggregate-join
+slice-aggregate-join c = simp length-take (omega arith)
+
+slice-aggregate-join-2 : tie.Need-slice-aggregate-join-2
+slice-aggregate-join-2 c = search needs
+
+join-requires : tie.Need-join-requires
+join-requires c κs = search needs
+
+enum-known-len : tie.Need-enum-known-len
+enum-known-len c = search needs
+
+slice-aggregate-copy : tie.Need-slice-aggregate-copy
+slice-aggregate-copy c = search needs
+
+copy-requires : tie.Need-copy-requires
+copy-requires c κs =
+    let j = c .before .before .before .before .before .before in
+    let f = fits-in _ _ (j .join .ensures) (c .before .before .before .len .given .1) in
+    (omega arith, omega arith)
+
+enum-known-x : tie.Need-enum-known-x
+enum-known-x c = search needs
+
+refuse-requires : tie.Need-refuse-requires
+refuse-requires c κs = search needs
+
+same-length : tie.Need-same-length
+same-length c = search needs
+
+returns : tie.Need-returns
+returns c =
+    let w = c .before .before in
+    let e = c .before .before .before .before .before .before .len .given .1 in
+    let j = c .before .before .before .before .before .before .before .before .before in
+    let f = fits-in _ _ (j .join .ensures) e in
+    (joins-as (ap (joinOutcome _ _) (search needs)) (joined-in _ _ (omega arith) (j .join .ensures) e (w .copy .ensures)), omega arith)
+
+same-length-2 : tie.Need-same-length-2
+same-length-2 c = search needs
+
+returns-2 : tie.Need-returns-2
+returns-2 c =
+    let j = c .before .before .before .before .before in
+    let r = c .refuse .ensures in
+    (joins-as (ap (joinOutcome _ _) (search needs)) (not-joined _ _ (j .join .ensures) (c .before .before .x .given .1) (r .1) (r .0)), omega arith)
+
+pub join-to-spec : {M : Type 1} → statement M
+join-to-spec =
+    tie.close
+    (tie.spec
+    slice-reshare-prefix-join
+    slice-aggregate-join
+    slice-aggregate-join-2
+    join-requires
+    enum-known-len
+    slice-aggregate-copy
+    copy-requires
+    enum-known-x
+    refuse-requires
+    same-length
+    returns
+    same-length-2
+    returns-2)

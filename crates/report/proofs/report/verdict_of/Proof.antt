@@ -1,0 +1,20 @@
+-- A code other than 1 and 2 is unfit.
+use borrow.Author.Tests.{eq-eqb, ne-eqb}
+use Rattle.report.specs.Report.{verdictOf}
+use Rattle.report.proofs.report.verdict_of.Statement.{statement}
+use Rattle.report.proofs.report.verdict_of.Tie as tie
+
+returns : tie.Need-returns
+unfolding verdictOf
+returns c = simp (eq-eqb _ _ (c .if1 .taken))
+
+returns-2 : tie.Need-returns-2
+unfolding verdictOf
+returns-2 c = simp (ne-eqb _ _ (c .before .if1 .left), eq-eqb _ _ (c .if2 .taken))
+
+returns-3 : tie.Need-returns-3
+unfolding verdictOf
+returns-3 c = simp (ne-eqb _ _ (c .before .if1 .left), ne-eqb _ _ (c .if2 .left))
+
+pub verdict-of-spec : {M : Type 1} → statement M
+verdict-of-spec = tie.close (tie.spec returns returns-2 returns-3)

@@ -1,0 +1,100 @@
+-- What the closing program prints, as bytes: document 01's report of a closed epoch, and of a refusal.
+use Prim.Native.Nat.{ℕ, zero, suc, _+_, _/_, _%_}
+use mathlib.Core.Path.{_≡_}
+use mathlib.Core.List.{List, [], _∷_, _++_}
+use lib.ListN.{length, getD}
+use lib.Dec.{ltb, eqb}
+use Rattle.words.specs.Words.{Bytes, word, stored, runWords}
+use Rattle.rules.specs.declared.mark.Mark.{Mark}
+use Rattle.rules.specs.declared.row.Row.{Row}
+use Rattle.rules.specs.declared.answer.Verdict.{Verdict}
+use Rattle.rules.specs.declared.answer.Verdict.the-variants.{Commit, Lost, Unfit}
+use Rattle.rules.specs.Lists.{if_then_else_, flat, runLists}
+use Rattle.rules.specs.Register.{Register}
+
+-- the decimal digits of n in ASCII, the most significant first, and of a longer number the last k
+unfoldable pub digits : ℕ → ℕ → Bytes
+digits zero n = []
+digits (suc k) n = if ltb n 10 then (48 + n) ∷ [] else digits k (n / 10) ++ ((48 + n % 10) ∷ [])
+
+-- a number of 64 bits, which has at most 20 digits
+unfoldable pub decimal : ℕ → Bytes
+decimal n = digits 20 n
+
+-- a word and the number behind it
+unfoldable pub field : Bytes → ℕ → Bytes
+field text n = text ++ decimal n
+
+abbrev pub space : Bytes
+space = 32 ∷ []
+
+abbrev pub lineEnd : Bytes
+lineEnd = 10 ∷ []
+
+-- no line is longer
+abbrev pub lineRoom : ℕ
+lineRoom = 112
+
+-- no report is longer: a line, 64 sets and 1,024 rows
+abbrev pub reportRoom : ℕ
+reportRoom = 121968
+
+-- `snapshot S rows N`
+unfoldable pub snapshotLine : ℕ → ℕ → Bytes
+snapshotLine s n =
+    (field (115 ∷ 110 ∷ 97 ∷ 112 ∷ 115 ∷ 104 ∷ 111 ∷ 116 ∷ 32 ∷ []) s ++ field (32 ∷ 114 ∷ 111 ∷ 119 ∷ 115 ∷ 32 ∷ []) n) ++ lineEnd
+
+-- ` commit 0`, ` lost KEY` or ` unfit KEY`
+unfoldable pub verdictText : Verdict → Bytes
+verdictText Commit = field (32 ∷ 99 ∷ 111 ∷ 109 ∷ 109 ∷ 105 ∷ 116 ∷ 32 ∷ []) 0
+verdictText (Lost k) = field (32 ∷ 108 ∷ 111 ∷ 115 ∷ 116 ∷ 32 ∷ []) k
+verdictText (Unfit k) = field (32 ∷ 117 ∷ 110 ∷ 102 ∷ 105 ∷ 116 ∷ 32 ∷ []) k
+
+-- `set CSN commit 0`
+unfoldable pub setLine : ℕ → Verdict → Bytes
+setLine csn v = (field (115 ∷ 101 ∷ 116 ∷ 32 ∷ []) csn ++ verdictText v) ++ lineEnd
+
+-- ` CEN SEN CSN`
+unfoldable pub markText : Mark → Bytes
+markText m = (field space m.cen ++ field space m.sen) ++ field space m.csn
+
+-- `row KEY VALUE CEN SEN CSN`
+unfoldable pub rowLine : Row → Bytes
+rowLine r = ((field (114 ∷ 111 ∷ 119 ∷ 32 ∷ []) r.key ++ field space r.value) ++ markText r.mark) ++ lineEnd
+
+-- a line a set, as long as there are commit numbers and verdicts
+unfoldable pub setLines : List ℕ → List Verdict → Bytes
+setLines [] vs = []
+setLines (c ∷ cs) [] = []
+setLines (c ∷ cs) (v ∷ vs) = setLine c v ++ setLines cs vs
+
+-- THE REPORT of a closed epoch: the next register, the sets' commit numbers and their verdicts
+unfoldable pub report : Register → List ℕ → List Verdict → Bytes
+report g csns vs = (snapshotLine g.snapshot (length g.rows) ++ setLines csns vs) ++ flat rowLine g.rows
+
+-- `refused N`
+unfoldable pub refusedText : ℕ → Bytes
+refusedText n = field (114 ∷ 101 ∷ 102 ∷ 117 ∷ 115 ∷ 101 ∷ 100 ∷ 32 ∷ []) n ++ lineEnd
+
+-- a verdict from its code and key
+unfoldable pub verdictOf : ℕ → ℕ → Verdict
+verdictOf code key = if eqb code 1 then Commit else if eqb code 2 then Lost key else Unfit key
+
+-- the verdict whose 5 bytes start at a place
+unfoldable pub verdictIn : Bytes → ℕ → Verdict
+verdictIn b at = verdictOf (getD b at 0) (word 4 b (at + 1))
+
+-- n verdicts from a place on
+unfoldable pub verdictsIn : ℕ → Bytes → ℕ → List Verdict
+verdictsIn zero b at = []
+verdictsIn (suc n) b at = verdictIn b at ∷ verdictsIn n b (at + 5)
+
+-- of a writing at a place: it is one store of the text, and the place behind it is handed back
+pub record Put (text before : Bytes) (at : ℕ) (after : Bytes) (next : ℕ) : Type 0 where
+  pub bytes : after ≡ stored before at text
+  pub place : next ≡ at + length text
+
+-- opens all of these, for a proof by computation
+unfoldable pub runReport : Unit {0}
+unfolding runWords runLists digits decimal field snapshotLine verdictText setLine markText rowLine setLines report refusedText verdictOf verdictIn verdictsIn
+runReport = tt

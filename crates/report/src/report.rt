@@ -1,0 +1,80 @@
+// The report of a closed epoch: the head line, a line a set, a line a row.
+use crate::line::put_row_line;
+use crate::line::put_set_line;
+use crate::line::put_snapshot_line;
+use forms::row;
+use forms::row_count;
+use forms::set_count;
+use forms::set_csn;
+use forms::snapshot;
+use rules::Verdict;
+use words::get32;
+ghost use mathlib.Core.Path.{_≡_};
+ghost use mathlib.Core.Bool.{true};
+ghost use mathlib.Core.List.{map};
+ghost use Prim.Native.Nat.{_+_, _*_, _≤_};
+ghost use lib.ListN.{length};
+ghost use Rattle.rules.specs.Lists.{flat};
+ghost use Rattle.rules.specs.Register.{isRegister, registerIn};
+ghost use Rattle.rules.specs.Sheet.{isSheet, sheetIn, csnOf};
+ghost use Rattle.report.specs.Report.{Put, lineRoom, reportRoom, rowLine, setLines, verdictOf, verdictIn, verdictsIn, report};
+
+fn verdict_of(code: u8, key: u32) -> Verdict
+    ensures { λ r. ⌜ r ≡ verdictOf code key ⌝ }
+{
+    if code == 1 {
+        return Verdict::Commit;
+    }
+    if code == 2 {
+        return Verdict::Lost(key);
+    }
+    Verdict::Unfit(key)
+}
+
+// The verdict of set i.
+fn verdict(b: &[u8], i: usize) -> Verdict
+    requires { ⌜ 5 * i + 5 ≤ length (now b) ⌝ }
+    ensures { λ r. ⌜ r ≡ verdictIn (now (b .entry)) (5 * i) ⌝ }
+{
+    verdict_of(b[5 * i], get32(b, 5 * i + 1))
+}
+
+// A line for each set.
+fn put_set_lines(sheet: &[u8], verdicts: &[u8], out: &mut [u8], at: usize) -> usize
+    requires { ⌜ (isSheet (now sheet) ≡ true) × (5 * length (sheetIn (now sheet) .sets) ≤ length (now verdicts)) × (at + lineRoom * length (sheetIn (now sheet) .sets) ≤ length (now out)) ⌝ }
+    ensures { λ r. ⌜ (Put (setLines (map csnOf (sheetIn (now (sheet .entry)) .sets)) (verdictsIn (length (sheetIn (now (sheet .entry)) .sets)) (now (verdicts .entry)) 0)) (now (out .entry)) at (now (out .exit)) r) × (r ≤ at + lineRoom * length (sheetIn (now (sheet .entry)) .sets)) ⌝ }
+{
+    let n = set_count(sheet);
+    let mut end = at;
+    let mut i: usize = 0;
+    while i < n {
+        end = put_set_line(out, end, set_csn(sheet, i), verdict(verdicts, i));
+        i += 1;
+    }
+    end
+}
+
+// A line for each row.
+fn put_row_lines(register: &[u8], out: &mut [u8], at: usize) -> usize
+    requires { ⌜ (isRegister (now register) ≡ true) × (at + lineRoom * length (registerIn (now register) .rows) ≤ length (now out)) ⌝ }
+    ensures { λ r. ⌜ (Put (flat rowLine (registerIn (now (register .entry)) .rows)) (now (out .entry)) at (now (out .exit)) r) × (r ≤ at + lineRoom * length (registerIn (now (register .entry)) .rows)) ⌝ }
+{
+    let n = row_count(register);
+    let mut end = at;
+    let mut i: usize = 0;
+    while i < n {
+        end = put_row_line(out, end, row(register, i));
+        i += 1;
+    }
+    end
+}
+
+// THE REPORT, at the start of out, of a next register, a closed sheet and its verdicts.
+pub fn write_report(register: &[u8], sheet: &[u8], verdicts: &[u8], out: &mut [u8]) -> usize
+    requires { ⌜ (isRegister (now register) ≡ true) × (isSheet (now sheet) ≡ true) × (5 * length (sheetIn (now sheet) .sets) ≤ length (now verdicts)) × (reportRoom ≤ length (now out)) ⌝ }
+    ensures { λ r. ⌜ (Put (report (registerIn (now (register .entry))) (map csnOf (sheetIn (now (sheet .entry)) .sets)) (verdictsIn (length (sheetIn (now (sheet .entry)) .sets)) (now (verdicts .entry)) 0)) (now (out .entry)) 0 (now (out .exit)) r) × (r ≤ reportRoom) ⌝ }
+{
+    let sets = put_snapshot_line(out, 0, snapshot(register), row_count(register));
+    let rows = put_set_lines(sheet, verdicts, out, sets);
+    put_row_lines(register, out, rows)
+}
