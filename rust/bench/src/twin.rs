@@ -1,0 +1,145 @@
+//! The proved library's own algorithms in plain Rust: what a Rust programmer would write to do the same in the same way.
+
+fn u32_at(b: &[u8], at: usize) -> u32 {
+    u32::from_le_bytes(b[at..at + 4].try_into().unwrap())
+}
+
+fn u64_at(b: &[u8], at: usize) -> u64 {
+    u64::from_le_bytes(b[at..at + 8].try_into().unwrap())
+}
+
+pub fn is_register(b: &[u8]) -> bool {
+    if b.len() < 8 {
+        return false;
+    }
+    let (snapshot, n) = (u32_at(b, 0), u32_at(b, 4) as usize);
+    if n > 1024 || b.len() != 8 + 28 * n {
+        return false;
+    }
+    let mut prev = 0;
+    for i in 0..n {
+        let at = 8 + 28 * i;
+        let (key, cen) = (u32_at(b, at), u32_at(b, at + 12));
+        if key <= prev || cen > snapshot || u32_at(b, at + 16) > cen {
+            return false;
+        }
+        prev = key;
+    }
+    true
+}
+
+struct Sheet<'a> {
+    b: &'a [u8],
+    n: usize,
+}
+
+impl Sheet<'_> {
+    fn csn(&self, i: usize) -> u64 {
+        u64_at(self.b, 24 + 16 * i)
+    }
+    fn sen(&self, i: usize) -> u32 {
+        u32_at(self.b, 24 + 16 * i + 8)
+    }
+    fn count(&self, i: usize) -> usize {
+        u16::from_le_bytes(self.b[24 + 16 * i + 14..24 + 16 * i + 16].try_into().unwrap()) as usize
+    }
+    fn record(&self, i: usize, j: usize) -> usize {
+        let first = u16::from_le_bytes(self.b[24 + 16 * i + 12..24 + 16 * i + 14].try_into().unwrap()) as usize;
+        24 + 16 * self.n + 16 * (first + j)
+    }
+    fn key(&self, i: usize, j: usize) -> u32 {
+        u32_at(self.b, self.record(i, j) + 4)
+    }
+    fn names(&self, i: usize, key: u32) -> bool {
+        (0..self.count(i)).any(|j| self.key(i, j) == key)
+    }
+    /// The fit set that precedes all others on a key.
+    fn winner(&self, fit: &[bool; 64], key: u32) -> Option<usize> {
+        let mut best = None;
+        for i in 0..self.n {
+            if fit[i] && self.names(i, key) {
+                best = match best {
+                    Some(b) if (self.sen(b), std::cmp::Reverse(self.csn(b))) >= (self.sen(i), std::cmp::Reverse(self.csn(i))) => Some(b),
+                    _ => Some(i),
+                };
+            }
+        }
+        best
+    }
+}
+
+/// Closes a well-formed, complete sheet of changes, deletes and inserts: fitness, winners and verdicts first, then the rows in order.
+pub fn close(register: &[u8], sheet: &[u8], next: &mut [u8], verdicts: &mut [u8]) {
+    assert!(is_register(register));
+    let s = Sheet { b: sheet, n: sheet[7] as usize };
+    let rows = u32_at(register, 4) as usize;
+    let (mut fit, mut commit) = ([false; 64], [false; 64]);
+    let mut wrong = [0u32; 64];
+    for i in 0..s.n {
+        let mut k = 0;
+        for j in 0..s.count(i) {
+            let key = s.key(i, j);
+            while k < rows && u32_at(register, 8 + 28 * k) < key {
+                k += 1;
+            }
+            let present = k < rows && u32_at(register, 8 + 28 * k) == key;
+            if present == (sheet[s.record(i, j)] == 2) {
+                wrong[i] = key;
+                break;
+            }
+        }
+        fit[i] = wrong[i] == 0;
+    }
+    for i in 0..s.n {
+        let lost = (0..s.count(i)).map(|j| s.key(i, j)).find(|k| s.winner(&fit, *k) != Some(i));
+        let (code, key) = if fit[i] { lost.map_or((1, 0), |k| (2, k)) } else { (3, wrong[i]) };
+        commit[i] = code == 1;
+        verdicts[5 * i] = code;
+        verdicts[5 * i + 1..5 * i + 5].copy_from_slice(&key.to_le_bytes());
+    }
+    let applied = |key: u32| {
+        (0..s.n).filter(|i| commit[*i]).find_map(|i| (0..s.count(i)).find(|j| s.key(i, *j) == key).map(|j| s.record(i, j)))
+    };
+    let next_insert = |after: u32| {
+        (0..s.n)
+            .filter(|i| commit[*i])
+            .flat_map(|i| (0..s.count(i)).map(move |j| (i, j)))
+            .filter(|(i, j)| sheet[s.record(*i, *j)] == 2 && s.key(*i, *j) > after)
+            .map(|(i, j)| s.key(i, j))
+            .min()
+    };
+    let epoch = u32_at(sheet, 0);
+    let (mut k, mut i, mut insert) = (0, 0, next_insert(0));
+    loop {
+        let old = (i < rows).then(|| u32_at(register, 8 + 28 * i));
+        let Some(key) = old.into_iter().chain(insert).min() else { break };
+        let from = 8 + 28 * i;
+        let record = applied(key);
+        let inserted = insert == Some(key);
+        if inserted {
+            insert = next_insert(key);
+        } else {
+            i += 1;
+        }
+        if record.is_some_and(|r| sheet[r] == 3) {
+            continue;
+        }
+        let to = 8 + 28 * k;
+        k += 1;
+        next[to..to + 4].copy_from_slice(&key.to_le_bytes());
+        match record {
+            Some(r) => next[to + 4..to + 12].copy_from_slice(&sheet[r + 8..r + 16]),
+            None => next[to + 4..to + 12].copy_from_slice(&register[from + 4..from + 12]),
+        }
+        match s.winner(&fit, key) {
+            Some(w) => {
+                next[to + 12..to + 16].copy_from_slice(&epoch.to_le_bytes());
+                next[to + 16..to + 20].copy_from_slice(&s.sen(w).to_le_bytes());
+                next[to + 20..to + 28].copy_from_slice(&s.csn(w).to_le_bytes());
+            }
+            None => next[to + 12..to + 28].copy_from_slice(&register[from + 12..from + 28]),
+        }
+    }
+    next[0..4].copy_from_slice(&epoch.to_le_bytes());
+    next[4..8].copy_from_slice(&(k as u32).to_le_bytes());
+}

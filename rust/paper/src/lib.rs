@@ -1,0 +1,29 @@
+//! Document 01 in plain Rust, written from the document and not from the Rattle code.
+//!
+//! It is the other side of every comparison, so it is written to be read beside the document: maps and vectors, nothing clever.
+//! Each operation takes the same arguments as the exported one and answers what is written, or the number of a refusal.
+
+mod check;
+mod close;
+mod gather;
+mod register;
+mod sheet;
+
+pub use check::{check, Finding};
+pub use close::{close, Closing};
+pub use gather::{join, notice, open, put};
+pub use register::{Mark, Register, Row};
+pub use sheet::{Kind, Record, Set, Sheet};
+
+/// The number of a refusal, 1 to 10.
+pub type Refusal = u32;
+
+/// The least lengths of the output buffers.
+pub const SHEET_ROOM: usize = 9240;
+pub const REGISTER_ROOM: usize = 28680;
+pub const VERDICT_ROOM: usize = 320;
+
+/// The little-endian number in some bytes.
+fn number(bytes: &[u8]) -> u64 {
+    bytes.iter().rev().fold(0, |n, b| n << 8 | u64::from(*b))
+}
