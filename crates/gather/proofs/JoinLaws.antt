@@ -15,7 +15,7 @@ use Rattle.rules.specs.Gathering.{spoiledSheet, joined}
 use Rattle.rules.specs.Refused.{sheetRoom, joinSheets, joinOutcome}
 use Rattle.rules.specs.Promises.{over, Promise}
 use Rattle.laws.specs.Tests.{or-left, or-right, or-false}
-use Rattle.laws.specs.Settled.{refuses, writes}
+use Rattle.laws.specs.Meets.{refuses, writes}
 use Rattle.laws.specs.Joining.{together, joinSpoils, joinHeld, joined-by}
 use Rattle.forms.proofs.SheetPlaces.{sheet-sound}
 use Rattle.gather.specs.OneSheet.{Written}

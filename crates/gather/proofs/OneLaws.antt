@@ -21,7 +21,7 @@ use Rattle.laws.specs.Tests.{left, right}
 use Rattle.laws.specs.FormLaws.{same→}
 use Rattle.laws.specs.SheetLaws.{records-length}
 use Rattle.laws.specs.GatherLaws.{notice-at}
-use Rattle.laws.specs.Settled.{refuses, writes}
+use Rattle.laws.specs.Meets.{refuses, writes}
 use Rattle.forms.specs.SheetReadings.{startBytes, entryBytes, total}
 use Rattle.forms.proofs.SheetPlaces.{sheet-length}
 use Rattle.forms.proofs.SheetWritten.{sheet-stored, sheet-over}

@@ -26,4 +26,4 @@ pub mod Demand3
 pub mod Gatherers
 pub mod Closers
 pub mod OneOffer
-pub mod Settled
+pub mod Meets

@@ -9,3 +9,4 @@ pub mod ReadCheck
 pub mod Refused
 pub mod Answers
 pub mod Promises
+pub mod Settled

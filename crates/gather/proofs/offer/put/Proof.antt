@@ -3,7 +3,7 @@ use native.Mathlib.Omega.{arith}
 use mathlib.Core.Path.{_∙_, sym}
 use Rattle.laws.specs.Says.{said-no, said-yes}
 use Rattle.rules.specs.declared.answer.Refusal.the-variants.{SheetIllFormed, OfferIllFormed}
-use Rattle.laws.specs.Settled.{refuses, writes}
+use Rattle.laws.specs.Meets.{refuses, writes}
 use Rattle.gather.proofs.OfferLaws.{put-2, put-3, put-to, refused-by, granted-by, grant}
 use borrow.Author.Needs.{needs}
 use Rattle.gather.proofs.offer.put.Statement.{statement}

@@ -1,24 +1,24 @@
--- A promise settles answer and every lent byte: two outcomes that it allows are equal. And how a program meets one.
+-- A promise settles answer and every lent byte: two outcomes that it allows are equal.
 use Prim.Native.Nat.{ℕ}
 use mathlib.Core.Path.{_≡_, refl, sym, _∙_, ap, ap₂}
 use mathlib.Core.List.{[], _∷_}
 use native.Mathlib.Omega.{arith}
-use lib.ListN.{length, getD}
+use lib.ListN.{getD}
 use Rattle.words.specs.Words.{Bytes}
 use Rattle.rules.specs.declared.answer.Refusal.{Refusal}
 use Rattle.rules.specs.declared.answer.Refusal.the-variants.{RegisterIllFormed, SheetIllFormed, OfferIllFormed, WrongEpoch, WrongRoster, Spoiled, Incomplete, TooManyRows, BufferShort, CheckIllFormed}
 use Rattle.rules.specs.declared.answer.Reason.{Reason}
 use Rattle.rules.specs.declared.answer.Reason.the-variants.{Gone, OtherCsn, TooNew}
 use Rattle.rules.specs.declared.answer.Answer.{Answer}
 use Rattle.rules.specs.declared.answer.Answer.the-variants as answer
 use Rattle.rules.specs.declared.answer.Closed.{Closed}
 use Rattle.rules.specs.declared.answer.Closed.the-variants as closed
 use Rattle.rules.specs.declared.answer.Checked.{Checked}
 use Rattle.rules.specs.declared.answer.Checked.the-variants as checked
 use Rattle.rules.specs.Answers.{refusalNumber, reasonNumber, answerNumbers, closedNumbers, checkedNumbers}
-use Rattle.rules.specs.Refused.{Outcome, refused, done, Closing}
+use Rattle.rules.specs.Refused.{Outcome, Closing}
 use Rattle.rules.specs.ReadCheck.{Finding}
-use Rattle.rules.specs.Promises.{over, told, left, Promise, ClosePromise, CheckPromise}
+use Rattle.rules.specs.Promises.{Promise, ClosePromise, CheckPromise}
 
 -- ---- an answer is told by its numbers
 
@@ -116,13 +116,3 @@ settled-closing o next verdicts {a} {b} p q =
 -- AND OF THE READ CHECK
 pub settled-check : (o : Outcome Finding) {a b : Checked} → CheckPromise o a → CheckPromise o b → a ≡ b
 settled-check o {a} {b} p q = same-checked a b (p .answered ∙ sym (q .answered))
-
--- ---- how a program meets the one-buffer promise
-
-pub refuses : (o : Outcome Bytes) (x : Refusal) (l : Bytes) → o ≡ refused (refusalNumber x) → Promise o l (answer.Refused x) l
-unfolding told left
-refuses o x l e = rw e (record { answered = refl; buffer = refl })
-
-pub writes : (o : Outcome Bytes) (b l l′ : Bytes) (n : ℕ) → o ≡ done b → n ≡ length b → l′ ≡ over l b → Promise o l (answer.Wrote n) l′
-unfolding told left
-writes o b l l′ n e p q = rw e (record { answered = ap (λ (k : ℕ). (0, k)) p; buffer = q })
