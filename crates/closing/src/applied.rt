@@ -82,7 +82,7 @@ fn insert_in(sheet: &[u8], i: usize, after: u32) -> u32
     let mut j: usize = 0;
     while j < n {
         let r = record(sheet, i, j);
-        if r.kind == 2 {
+        if r.kind == Record::INSERT {
             if after < r.key {
                 return r.key;
             }

@@ -3,6 +3,7 @@ use forms::in_roster;
 use forms::notice;
 use forms::set_count;
 use forms::set_csn;
+use rules::NO_NOTICE;
 ghost use mathlib.Core.Path.{_≡_};
 ghost use mathlib.Core.Bool.{true};
 ghost use Prim.Native.Nat.{_≤_, _<_};
@@ -37,7 +38,7 @@ fn owes_nothing(sheet: &[u8], m: usize) -> bool
         return true;
     }
     let said = notice(sheet, m);
-    if said == 255 {
+    if said == NO_NOTICE {
         return false;
     }
     if sets_by(sheet, m) < said as usize {

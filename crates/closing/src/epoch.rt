@@ -15,7 +15,11 @@ use forms::set_count;
 use forms::snapshot;
 use forms::verdicts_length;
 use rules::Closed;
+use rules::MAX_ROWS;
+use rules::MAX_SETS;
+use rules::REGISTER_ROOM;
 use rules::Refusal;
+use rules::VERDICT_ROOM;
 ghost use mathlib.Core.Path.{_≡_};
 ghost use mathlib.Core.Bool.{true};
 ghost use mathlib.Core.Option.{some};
@@ -82,17 +86,17 @@ fn close_complete(register: &[u8], sheet: &[u8], next: &mut [u8], verdicts: &mut
     requires { ⌜ (isRegister (now register) ≡ true) × (isSheet (now sheet) ≡ true) × (sheetIn (now sheet) .epoch ≡ registerIn (now register) .snapshot + 1) ⌝ }
     ensures { λ r. ⌜ ClosePromise (closeComplete (registerIn (now (register .entry))) (sheetIn (now (sheet .entry))) (length (now (next .entry))) (length (now (verdicts .entry)))) (now (next .entry)) (now (verdicts .entry)) r (now (next .exit)) (now (verdicts .exit)) ⌝ }
 {
-    let mut wrong = [0u32; 64];
-    let mut lost = [0u32; 64];
+    let mut wrong = [0u32; MAX_SETS];
+    let mut lost = [0u32; MAX_SETS];
     judge(register, sheet, &mut wrong, &mut lost);
     let n = next_count(register, sheet, &wrong, &lost);
-    if 1024 < n {
+    if MAX_ROWS < n {
         return Closed::Refused(Refusal::TooManyRows);
     }
-    if next.len() < 28680 {
+    if next.len() < REGISTER_ROOM {
         return Closed::Refused(Refusal::BufferShort);
     }
-    if verdicts.len() < 320 {
+    if verdicts.len() < VERDICT_ROOM {
         return Closed::Refused(Refusal::BufferShort);
     }
     write(register, sheet, &wrong, &lost, n, next, verdicts)

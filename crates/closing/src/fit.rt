@@ -4,6 +4,7 @@ use forms::record_count;
 use forms::row_count;
 use forms::row_key;
 use forms::set_count;
+use rules::Record;
 ghost use mathlib.Core.Path.{_≡_};
 ghost use mathlib.Core.Bool.{true};
 ghost use Prim.Native.Nat.{_<_};
@@ -35,7 +36,7 @@ fn wrong_key(register: &[u8], sheet: &[u8], i: usize) -> u32
                 break 'rows;
             }
             if key == row {
-                if kind == 2 {
+                if kind == Record::INSERT {
                     wrong = key;
                     break 'records;
                 }
@@ -45,7 +46,7 @@ fn wrong_key(register: &[u8], sheet: &[u8], i: usize) -> u32
             at += 1;
         }
         if !present {
-            if kind != 2 {
+            if kind != Record::INSERT {
                 wrong = key;
                 break 'records;
             }

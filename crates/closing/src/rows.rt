@@ -30,7 +30,8 @@ pub fn next_count(register: &[u8], sheet: &[u8], wrong: &[u32], lost: &[u32]) ->
     requires { ⌜ Judged (now register) (now sheet) (now wrong) (now lost) ⌝ }
     ensures { λ r. ⌜ r ≡ length (nextRows (registerIn (now (register .entry))) (sheetIn (now (sheet .entry)))) ⌝ }
 {
-    row_count(register) + applied_count(sheet, lost, 2) - applied_count(sheet, lost, 3)
+    row_count(register) + applied_count(sheet, lost, Record::INSERT)
+        - applied_count(sheet, lost, Record::DELETE)
 }
 
 // WHICH MARK A REMAINING ROW TAKES: its winner's, even if that set lost elsewhere; without a winner it keeps its own.
@@ -60,7 +61,7 @@ fn put_old(
 {
     let old = row(register, i);
     let change = applied(sheet, lost, old.key);
-    if change.kind == 3 {
+    if change.kind == Record::DELETE {
         return k;
     }
     let mut value = old.value;

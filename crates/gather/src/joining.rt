@@ -10,6 +10,7 @@ use forms::put_sheet_start;
 use forms::roster;
 use rules::Answer;
 use rules::Refusal;
+use rules::SHEET_ROOM;
 ghost use mathlib.Core.Path.{_≡_};
 ghost use mathlib.Core.Bool.{true};
 ghost use Prim.Native.Nat.{_≤_};
@@ -62,7 +63,7 @@ pub fn join<'a>(a: &'a [u8], b: &'a [u8], out: &mut [u8]) -> Answer
     if roster(a) != roster(b) {
         return Answer::Refused(Refusal::WrongRoster);
     }
-    if out.len() < 9240 {
+    if out.len() < SHEET_ROOM {
         return Answer::Refused(Refusal::BufferShort);
     }
     Answer::Wrote(join_into(a, b, out))

@@ -1,6 +1,7 @@
 // The notices of two sheets together: what each master noticed, and whether one has two different notices or more sets than it noticed.
 use crate::count::sets_of;
 use forms::notice;
+use rules::NO_NOTICE;
 ghost use mathlib.Core.Path.{_≡_};
 ghost use Prim.Native.Nat.{_<_};
 ghost use Rattle.rules.specs.Lists.{any};
@@ -8,7 +9,7 @@ ghost use Rattle.rules.specs.Sheet.{sheetIn, masters};
 ghost use Rattle.laws.specs.Joining.{noticeTogether, noticesDiffer, overAt};
 ghost use Rattle.gather.specs.Walk.{Both};
 
-// The smaller one: 255 is no notice.
+// The smaller one: no notice is the largest byte.
 pub fn notice_together(a: &[u8], b: &[u8], m: usize) -> u8
     requires { ⌜ (Both (now a) (now b)) × (m < 16) ⌝ }
     ensures { λ r. ⌜ r ≡ noticeTogether (sheetIn (now (a .entry))) (sheetIn (now (b .entry))) m ⌝ }
@@ -27,10 +28,10 @@ fn differ_at(a: &[u8], b: &[u8], m: usize) -> bool
 {
     let x = notice(a, m);
     let y = notice(b, m);
-    if x == 255 {
+    if x == NO_NOTICE {
         return false;
     }
-    if y == 255 {
+    if y == NO_NOTICE {
         return false;
     }
     x != y
@@ -55,7 +56,7 @@ fn over_at(a: &[u8], b: &[u8], m: usize) -> bool
     ensures { λ r. ⌜ r ≡ overAt (sheetIn (now (a .entry))) (sheetIn (now (b .entry))) m ⌝ }
 {
     let x = notice_together(a, b, m);
-    if x == 255 {
+    if x == NO_NOTICE {
         return false;
     }
     (x as usize) < sets_of(a, b, m)

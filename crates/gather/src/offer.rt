@@ -8,7 +8,9 @@ use forms::in_roster;
 use forms::is_sheet;
 use forms::roster;
 use rules::Answer;
+use rules::MAX_NOTICE;
 use rules::Refusal;
+use rules::SHEET_ROOM;
 ghost use mathlib.Core.Path.{_≡_};
 ghost use mathlib.Core.Bool.{true};
 ghost use Prim.Native.Nat.{_<_};
@@ -51,7 +53,7 @@ fn is_notice(epoch: u32, master: u8, count: u8) -> bool
     if 15 < master {
         return false;
     }
-    if 64 < count {
+    if MAX_NOTICE < count {
         return false;
     }
     true
@@ -68,7 +70,7 @@ fn admit(sheet: &[u8], offered: u32, master: u32, room: usize) -> Admission
     if !in_roster(sheet, master) {
         return Admission::Refused(Refusal::WrongRoster);
     }
-    if room < 9240 {
+    if room < SHEET_ROOM {
         return Admission::Refused(Refusal::BufferShort);
     }
     Admission::Granted

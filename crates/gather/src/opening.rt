@@ -3,6 +3,7 @@ use forms::put_no_notices;
 use forms::put_sheet_start;
 use rules::Answer;
 use rules::Refusal;
+use rules::SHEET_ROOM;
 ghost use lib.ListN.{length};
 ghost use Rattle.rules.specs.Refused.{openOutcome};
 ghost use Rattle.rules.specs.Promises.{Promise};
@@ -16,7 +17,7 @@ pub fn open(epoch: u32, roster: u16, out: &mut [u8]) -> Answer
     if roster == 0 {
         return Answer::Refused(Refusal::WrongRoster);
     }
-    if out.len() < 9240 {
+    if out.len() < SHEET_ROOM {
         return Answer::Refused(Refusal::BufferShort);
     }
     put_sheet_start(out, epoch, roster, false, 0);

@@ -3,6 +3,7 @@ use crate::clash::clashes;
 use crate::count::count;
 use crate::notices::notices_differ;
 use crate::notices::over_notice;
+use rules::MAX_SETS;
 ghost use mathlib.Core.Path.{_≡_};
 ghost use Rattle.rules.specs.Sheet.{sheetIn};
 ghost use Rattle.laws.specs.Joining.{joinSpoils};
@@ -18,7 +19,7 @@ pub fn spoils(a: &[u8], b: &[u8]) -> bool
     if notices_differ(a, b) {
         return true;
     }
-    if 64 < count(a, b) {
+    if MAX_SETS < count(a, b) {
         return true;
     }
     over_notice(a, b)

@@ -1,9 +1,12 @@
 // The answer, entry after entry: on none, and on one more than before. A refusal stays, and so does the first failing entry.
 use crate::entry::Entry;
 use crate::entry::failing;
+use crate::mode::READ_COMMITTED;
+use crate::mode::SNAPSHOT_ISOLATION;
 use forms::is_register;
 use forms::snapshot;
 use rules::Checked;
+use rules::MAX_READS;
 use rules::Read;
 use rules::Refusal;
 ghost use mathlib.Core.Path.{_≡_};
@@ -19,10 +22,10 @@ pub fn on_none(register: &[u8], mode: u8, lsn: u32) -> Checked
     if !is_register(register) {
         return Checked::Refused(Refusal::RegisterIllFormed);
     }
-    if mode < 1 {
+    if mode < READ_COMMITTED {
         return Checked::Refused(Refusal::CheckIllFormed);
     }
-    if 3 < mode {
+    if SNAPSHOT_ISOLATION < mode {
         return Checked::Refused(Refusal::CheckIllFormed);
     }
     if snapshot(register) < lsn {
@@ -84,7 +87,7 @@ pub fn with_entry(
     if read.key == 0 {
         return ill_formed(before);
     }
-    if 32 <= i {
+    if MAX_READS <= i {
         return ill_formed(before);
     }
     and_entry(

@@ -1,6 +1,8 @@
 // Why an entry of the read check fails, if it does.
 use crate::find::Found;
 use crate::find::find;
+use crate::mode::READ_COMMITTED;
+use crate::mode::REPEATABLE_READ;
 use rules::Read;
 use rules::Reason;
 use rules::Row;
@@ -19,7 +21,7 @@ pub enum Entry {
 fn failing_row(mode: u8, lsn: u32, read: Read, row: Row) -> Entry
     ensures { λ r. ⌜ reasonOf r ≡ failsRow mode lsn read row ⌝ }
 {
-    if mode == 2 {
+    if mode == REPEATABLE_READ {
         if row.mark.csn == read.csn {
             return Entry::Stands;
         }
@@ -36,7 +38,7 @@ pub fn failing(register: &[u8], mode: u8, lsn: u32, read: Read) -> Entry
     requires { ⌜ isRegister (now register) ≡ true ⌝ }
     ensures { λ r. ⌜ reasonOf r ≡ failing (registerIn (now (register .entry))) mode lsn read ⌝ }
 {
-    if mode == 1 {
+    if mode == READ_COMMITTED {
         return Entry::Stands;
     }
     match find(register, read.key) {

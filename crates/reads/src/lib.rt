@@ -3,6 +3,7 @@ mod answer;
 mod entry;
 mod find;
 mod list;
+mod mode;
 mod pairs;
 
 pub use list::check_reads;

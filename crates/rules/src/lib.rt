@@ -1,6 +1,7 @@
 // The vocabulary of document 01: marks, rows, records and reads as values, and the answers of the operations.
 // The rules themselves are the definitions in specs/.
 mod answer;
+mod limit;
 mod mark;
 mod row;
 
@@ -10,6 +11,14 @@ pub use answer::Closed;
 pub use answer::Reason;
 pub use answer::Refusal;
 pub use answer::Verdict;
+pub use limit::MAX_NOTICE;
+pub use limit::MAX_READS;
+pub use limit::MAX_ROWS;
+pub use limit::MAX_SETS;
+pub use limit::NO_NOTICE;
+pub use limit::REGISTER_ROOM;
+pub use limit::SHEET_ROOM;
+pub use limit::VERDICT_ROOM;
 pub use mark::Mark;
 pub use row::Read;
 pub use row::Record;

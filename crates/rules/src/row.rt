@@ -23,11 +23,19 @@ impl Row {
     }
 }
 
-// What a set does at one key: kind 1 changes, 2 inserts, 3 deletes.
+// What a set does at one key.
 pub struct Record {
     pub kind: u8,
     pub key: u32,
     pub value: u64,
+}
+
+impl Record {
+    pub const CHANGE: u8 = 1;
+
+    pub const INSERT: u8 = 2;
+
+    pub const DELETE: u8 = 3;
 }
 
 // A key that a depot read, and the csn seen with it.
