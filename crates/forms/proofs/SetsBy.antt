@@ -1,21 +1,21 @@
 -- The tests of the contents and the bodies decide whether the sets are sound and written as these bytes.
 use Prim.Native.Nat.{ℕ, zero, suc, _+_, _*_, _^_, _≤_, _<_}
-use mathlib.Core.Path.{_≡_, refl, ap, _∙_}
+use mathlib.Core.Path.{_≡_, refl, sym, ap, _∙_}
 use mathlib.Core.Bool.{Bool, true, false}
 use mathlib.Core.List.{List, [], _∷_, _++_, map, append-assoc}
 use native.Mathlib.Omega.{arith}
-use borrow.Author.Tests.{le-leb, eq-eqb, leb-true, eqb-true}
+use borrow.Author.Tests.{le-leb, eq-eqb, ne-eqb, leb-true, eqb-true}
 use lib.ListN.{length, drop, length-append}
 use lib.Dec.{eqb}
 use Rattle.words.specs.Words.{Bytes, le, word}
 use Rattle.words.proofs.Laws.{word-fits}
-use Rattle.rules.specs.Lists.{_and_, if_then_else_, all, keep, count, flat, same}
+use Rattle.rules.specs.Lists.{_and_, _or_, if_then_else_, all, keep, count, flat, ascendFrom, ascend, same}
 use Rattle.rules.specs.Numbers.{masterOf}
 use Rattle.rules.specs.Sheet.{WriteSet, csnOf, setsOf, soundRecords, soundSet, recordsBytes, recordsIn, contentsFrom, bodies, setsIn}
 use Rattle.laws.specs.Tests.{left, right, both}
 use Rattle.laws.specs.FormLaws.{→fits}
 use Rattle.laws.specs.Says.{Says}
-use Rattle.forms.specs.SheetForm.{countAt, entryOk, setsOk, csnsIn, setsBy}
+use Rattle.forms.specs.SheetForm.{countAt, entryOk, above, setOk, setsOk, csnsIn, setsBy}
 use Rattle.forms.proofs.Written.{Octets, and-assoc, word-here, value-here}
 use Rattle.forms.proofs.RecordsBy.{zerosIn, records-count, records-length, records-here, set-says}
 
@@ -33,6 +33,27 @@ firstsIn first (suc n) b c = eqb first (word 2 b (c + 12)) and firstsIn (first +
 pub setZeros : ℕ → Bytes → ℕ → ℕ → Bool
 setZeros zero b c at = true
 setZeros (suc n) b c at = zerosIn (countAt b c) b at and setZeros n b (c + 16) (at + 16 * countAt b c)
+
+-- csns strictly ascend, and from above `prev` if a record stands before them
+unfoldable pub ordered : ℕ → ℕ → List ℕ → Bool
+ordered zero prev csns = ascend csns
+ordered (suc first) prev csns = ascendFrom prev csns
+
+ordered-none : (first prev : ℕ) → ordered first prev [] ≡ true
+unfolding ordered ascend ascendFrom
+ordered-none zero prev = refl
+ordered-none (suc first) prev = refl
+
+ordered-after : (first prev : ℕ) (csns : List ℕ) → 1 ≤ first → ordered first prev csns ≡ ascendFrom prev csns
+unfolding ordered
+ordered-after zero prev csns h = absurd (omega arith)
+ordered-after (suc first) prev csns h = refl
+
+-- a set of k records stands before the other csns
+ordered-more : (first prev k x : ℕ) (csns : List ℕ) → 1 ≤ k → ordered first prev (x ∷ csns) ≡ above first prev x and ordered (first + k) x csns
+unfolding ordered ascend ascendFrom above _and_ _or_
+ordered-more zero prev k x csns h = sym (ordered-after (0 + k) x csns (omega arith))
+ordered-more (suc first) prev k x csns h = rw (ne-eqb (suc first) 0 (λ e. omega arith), ordered-after (suc first + k) x csns (omega arith))
 
 pub sets-count : (n : ℕ) (b : Bytes) (c at : ℕ) → length (setsIn n b c at) ≡ n
 unfolding setsIn
@@ -120,39 +141,43 @@ module _ (b : Bytes) (o : Octets b) where
       ∙ records-here b o k at (more ++ rest) (omega arith)
       ∙ rw (bodies-here n (c + 16) (at + 16 * k) rest (omega arith), e, ← and-assoc)
 
-  -- what is tested of n sets: they are sound, the first records and the zeros are right, and the bytes end with the last body
-  pub sets-says : (first n c at : ℕ)
-      → Says (setsOk first n b c at)
-      ((all (soundSet (word 4 b 0) (word 2 b 4)) (setsIn n b c at) ≡ true) × (firstsIn first n b c ≡ true) × (setZeros n b c at ≡ true) × (at + 16 * totalIn n b c ≡ length b))
-  unfolding setsOk entryOk soundSet all setsIn firstsIn setZeros totalIn
-  sets-says first zero c at = record {
-    told = λ e. (refl, refl, refl, let h = eqb-true at (length b) e in omega arith);
+  -- what is tested of n sets: they are sound, the first records and the zeros are right, the bytes end with the last body, and the csns ascend
+  pub sets-says : (first prev n c at : ℕ)
+      → Says (setsOk first prev n b c at)
+      ((all (soundSet (word 4 b 0) (word 2 b 4)) (setsIn n b c at) ≡ true) × (firstsIn first n b c ≡ true) × (setZeros n b c at ≡ true) × (at + 16 * totalIn n b c ≡ length b) × (ordered first prev (csnsIn n b c) ≡ true))
+  unfolding setsOk setOk entryOk soundSet all setsIn firstsIn setZeros totalIn csnsIn
+  sets-says first prev zero c at = record {
+    told = λ e. (refl, refl, refl, let h = eqb-true at (length b) e in omega arith, ordered-none first prev);
     test = λ f. eq-eqb at (length b) (omega arith);
   }
-  sets-says first (suc n) c at =
+  sets-says first prev (suc n) c at =
       let k = countAt b c in
+      let csns = csnsIn n b (c + 16) in
       let body = set-says b o k at in
-      let rest = sets-says (first + k) n (c + 16) (at + 16 * k) in
+      let rest = sets-says (first + k) (word 8 b c) n (c + 16) (at + 16 * k) in
       let csn = →fits 8 (word 8 b c) (word-fits 8 b c o) in
       record {
         told = λ e.
-            let entry = left _ _ e in
+            let one = left _ _ e in
+            let entry = left _ _ (right _ _ one) in
             let counts = right _ _ (right _ _ (right _ _ entry)) in
-            let e₂ = right _ _ (right _ _ e) in
-            let s = body .told (both (left _ _ counts) (both (right _ _ counts) (left _ _ e₂))) in
-            let r = rest .told (right _ _ e₂) in (
+            let s = body .told (both (left _ _ counts) (both (right _ _ counts) (right _ _ (right _ _ (right _ _ one))))) in
+            let r = rest .told (right _ _ e) in (
               both (both csn (both (left _ _ entry) (both (left _ _ (right _ _ entry)) (s .0)))) (r .0),
               both (left _ _ (right _ _ (right _ _ entry))) (r .1),
               both (s .1) (r .2),
               let h = r .3 in omega arith,
+              ordered-more first prev k (word 8 b c) csns (leb-true _ _ (left _ _ counts)) ∙ both (left _ _ one) (r .4),
             );
         test = λ f.
             let sound = right _ _ (left _ _ (f .0)) in
             let s = body .test (right _ _ (right _ _ sound), left _ _ (f .2)) in
             let long = f .3 in
+            let csns-ascend = sym (ordered-more first prev k (word 8 b c) csns (leb-true _ _ (left _ _ s))) ∙ f .4 in
             both
-            (both (left _ _ sound) (both (left _ _ (right _ _ sound)) (both (left _ _ (f .1)) (both (left _ _ s) (left _ _ (right _ _ s))))))
+            (both (left _ _ csns-ascend)
             (both
-            (le-leb (at + 16 * k) (length b) (omega arith))
-            (both (right _ _ (right _ _ s)) (rest .test (right _ _ (f .0), right _ _ (f .1), right _ _ (f .2), omega arith))));
+            (both (left _ _ sound) (both (left _ _ (right _ _ sound)) (both (left _ _ (f .1)) (both (left _ _ s) (left _ _ (right _ _ s))))))
+            (both (le-leb (at + 16 * k) (length b) (omega arith)) (right _ _ (right _ _ s)))))
+            (rest .test (right _ _ (f .0), right _ _ (f .1), right _ _ (f .2), omega arith, right _ _ csns-ascend));
       }

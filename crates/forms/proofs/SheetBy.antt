@@ -17,7 +17,7 @@ use Rattle.laws.specs.Tests.{left, right, both, same-tests}
 use Rattle.laws.specs.FormLaws.{→fits, same→}
 use Rattle.forms.specs.SheetForm.{setCount, noNotices, stateOk, headOk, noticeOk, sheetOk}
 use Rattle.forms.proofs.Written.{Octets, and-true, part-here, byte-here, itself-here, word-here}
-use Rattle.forms.proofs.SetsBy.{totalIn, firstsIn, setZeros, sets-count, csns-of, sets-of, contents-length, bodies-length, total-few, contents-here, bodies-here, sets-says}
+use Rattle.forms.proofs.SetsBy.{totalIn, firstsIn, setZeros, ordered, sets-count, csns-of, sets-of, contents-length, bodies-length, total-few, contents-here, bodies-here, sets-says}
 
 -- the state byte is written again if it is 0 or 1
 state-here : (s : ℕ) → eqb (stateByte (eqb s 1)) s ≡ leb s 1
@@ -109,7 +109,7 @@ module _ (b : Bytes) (o : Octets b) where
 
   -- WHAT A PROGRAM TESTS OF A SHEET
   pub is-sheet-by : isSheet b ≡ sheetOk b
-  unfolding isSheet wellFormed soundSheet sheetOk headOk stateOk noNotices bare sheetIn
+  unfolding isSheet wellFormed soundSheet sheetOk headOk stateOk noNotices bare sheetIn ordered
   is-sheet-by = same-tests (isSheet b) (sheetOk b) to from
     where
       n : ℕ
@@ -138,9 +138,8 @@ module _ (b : Bytes) (o : Octets b) where
           (both (left _ _ s₂)
           (both (both (left _ _ written) (rw (sets-count n b 24 k) at (right _ _ s₈))) (rw (sets-count n b 24 k) at (left _ _ s₆)))))
           (both (le-leb k (length b) (omega arith))
-          (both (rw (csns-of n b 24 k) at (left _ _ s₇))
-          (both (sets-says b o 0 n 24 k .test (sets, left _ _ (right _ _ written), right _ _ (right _ _ written), omega arith))
-          (sym (notices-by b head) ∙ left _ _ s₅)))))
+          (both (sets-says b o 0 0 n 24 k .test (sets, left _ _ (right _ _ written), right _ _ (right _ _ written), omega arith, rw (csns-of n b 24 k) at (left _ _ s₇)))
+          (sym (notices-by b head) ∙ left _ _ s₅))))
 
       from : sheetOk b ≡ true → isSheet b ≡ true
       from e =
@@ -151,8 +150,7 @@ module _ (b : Bytes) (o : Octets b) where
           let state = left _ _ h₂ in
           let few : n ≤ 64 = leb-true _ _ (right _ _ h₂) in
           let e₃ = right _ _ (right _ _ e₁) in
-          let e₄ = right _ _ e₃ in
-          let sets = sets-says b o 0 n 24 k .told (left _ _ e₄) in
+          let sets = sets-says b o 0 0 n 24 k .told (left _ _ e₃) in
           let long = sets .3 in
           let total = total-few (word 4 b 0) (word 2 b 4) n b 24 k (sets .0) in
           both
@@ -161,8 +159,8 @@ module _ (b : Bytes) (o : Octets b) where
           (both (left _ _ (right _ _ h))
           (both (→fits 2 _ (word-fits 2 b 4 o))
           (both (eq-eqb _ _ (part-length b 8 16 head))
-          (both (notices-by b head ∙ right _ _ e₄)
+          (both (notices-by b head ∙ right _ _ e₃)
           (both (rw (sets-count n b 24 k) (right _ _ h₂))
-          (both (rw (csns-of n b 24 k) (left _ _ e₃))
+          (both (rw (csns-of n b 24 k) (sets .4))
           (both (sets .0) (rw (sets-count n b 24 k) (right _ _ state)))))))))))
           (sheet-written (omega arith) (omega arith) ∙ both (left _ _ state) (both (sets .1) (sets .2)))

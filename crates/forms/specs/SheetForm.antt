@@ -1,12 +1,13 @@
 -- What a program tests of the bytes of a sheet and of an offered set, by places, in the order in which `setsIn` and `recordsIn` walk.
 -- proofs/RecordsBy and proofs/SheetBy say that these tests decide the paper's `areRecords` and `isSheet`.
-use Prim.Native.Nat.{ℕ, zero, suc, _+_, _*_, _/_, _%_}
+use Prim.Native.Nat.{ℕ, zero, suc, _+_, _*_, _/_, _%_, _<_}
+use mathlib.Core.Path.{_≡_}
 use mathlib.Core.Bool.{Bool, true, not}
 use mathlib.Core.List.{List, [], _∷_}
 use lib.ListN.{length, getD}
 use lib.Dec.{leb, ltb, eqb}
 use Rattle.words.specs.Words.{Bytes, word, part}
-use Rattle.rules.specs.Lists.{_and_, _or_, all, count, ascend}
+use Rattle.rules.specs.Lists.{_and_, _or_, all, count}
 use Rattle.rules.specs.Numbers.{masterOf}
 use Rattle.rules.specs.Sheet.{noNotice, maxSets, maxRecords, delete, masters, inRoster, isKind, soundNotice}
 
@@ -43,12 +44,20 @@ entryOk first b c =
     leb (word 4 b (c + 8)) (word 4 b 0) and inRoster (word 2 b 4) (masterOf (word 8 b c))
     and eqb first (word 2 b (c + 12)) and leb 1 (countAt b c) and leb (countAt b c) maxRecords
 
+-- a csn is above that of the set before, `prev`; before the first set stands no record
+unfoldable pub above : ℕ → ℕ → ℕ → Bool
+above first prev csn = eqb first 0 or ltb prev csn
+
+-- the set whose entry is at c and whose body is at a place
+unfoldable pub setOk : ℕ → ℕ → Bytes → ℕ → ℕ → Bool
+setOk first prev b c at =
+    above first prev (word 8 b c) and entryOk first b c and leb (at + 16 * countAt b c) (length b) and bodyOk (countAt b c) 0 b at
+
 -- n sets, whose contents start at c and whose bodies start at a place; the bytes end where the last body does
-unfoldable pub setsOk : ℕ → ℕ → Bytes → ℕ → ℕ → Bool
-setsOk first zero b c at = eqb at (length b)
-setsOk first (suc n) b c at =
-    entryOk first b c and leb (at + 16 * countAt b c) (length b) and bodyOk (countAt b c) 0 b at
-    and setsOk (first + countAt b c) n b (c + 16) (at + 16 * countAt b c)
+unfoldable pub setsOk : ℕ → ℕ → ℕ → Bytes → ℕ → ℕ → Bool
+setsOk first prev zero b c at = eqb at (length b)
+setsOk first prev (suc n) b c at =
+    setOk first prev b c at and setsOk (first + countAt b c) (word 8 b c) n b (c + 16) (at + 16 * countAt b c)
 
 -- the csns of n sets whose contents start at c
 unfoldable pub csnsIn : ℕ → Bytes → ℕ → List ℕ
@@ -58,6 +67,10 @@ csnsIn (suc n) b c = word 8 b c ∷ csnsIn n b (c + 16)
 -- how many of the csns are a master's
 unfoldable pub setsBy : ℕ → List ℕ → ℕ
 setsBy m csns = count (λ x. eqb (masterOf x) m) csns
+
+-- sixteen counters say how many of the first n sets each master has
+abbrev pub Counted : ℕ → Bytes → List ℕ → Type 0
+Counted n b by = (m : ℕ) → m < 16 → getD by m 0 ≡ setsBy m (csnsIn n b 24)
 
 -- ---- the head
 
@@ -85,6 +98,5 @@ noticeOk b m = soundNotice (word 2 b 4) m (getD b (8 + m) 0) (setsBy m (csnsIn (
 unfoldable pub sheetOk : Bytes → Bool
 sheetOk b =
     leb 24 (length b) and headOk b and leb (24 + 16 * setCount b) (length b)
-    and ascend (csnsIn (setCount b) b 24)
-    and setsOk 0 (setCount b) b 24 (24 + 16 * setCount b)
+    and setsOk 0 0 (setCount b) b 24 (24 + 16 * setCount b)
     and all (noticeOk b) masters

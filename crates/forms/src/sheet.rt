@@ -1,20 +1,19 @@
 // Examining a sheet.
-use crate::contents::csns_ascend;
-use crate::contents::sets_by;
 use crate::contents::sets_ok;
 use crate::head::head_ok;
 use crate::head::in_roster;
 ghost use mathlib.Core.Path.{_≡_};
-ghost use Prim.Native.Nat.{_+_, _*_, _≤_, _<_};
-ghost use lib.ListN.{length};
+ghost use Prim.Native.Nat.{_+_, _≤_, _<_};
+ghost use lib.ListN.{length, getD};
+ghost use Rattle.words.specs.Words.{word};
 ghost use Rattle.rules.specs.Lists.{all};
-ghost use Rattle.rules.specs.Sheet.{masters, isSheet};
-ghost use Rattle.forms.specs.SheetForm.{setCount, noticeOk};
+ghost use Rattle.rules.specs.Sheet.{masters, soundNotice, isSheet};
+ghost use Rattle.forms.specs.SheetForm.{setCount, noticeOk, Counted};
 
-// Whether master m has no notice, or is in the roster, noticed at most 64 and has no more sets than that.
-fn notice_ok(b: &[u8], n: usize, m: usize) -> bool
-    requires { ⌜ (n ≡ setCount (now b)) × (24 + 16 * n ≤ length (now b)) × (m < 16) ⌝ }
-    ensures { λ r. ⌜ r ≡ noticeOk (now (b .entry)) m ⌝ }
+// Whether master m, which has so many sets, has no notice, or is in the roster, noticed at most 64 and has no more sets than that.
+fn notice_ok(b: &[u8], m: usize, sets: u8) -> bool
+    requires { ⌜ (24 ≤ length (now b)) × (m < 16) ⌝ }
+    ensures { λ r. ⌜ r ≡ soundNotice (word 2 (now (b .entry)) 4) m (getD (now (b .entry)) (8 + m) 0) sets ⌝ }
 {
     let notice = b[8 + m];
     if notice == 255 {
@@ -26,20 +25,20 @@ fn notice_ok(b: &[u8], n: usize, m: usize) -> bool
     if 64 < notice {
         return false;
     }
-    let sets = sets_by(b, n, m as u64);
-    if (notice as usize) < sets {
+    if notice < sets {
         return false;
     }
     true
 }
 
-fn notices_ok(b: &[u8], n: usize) -> bool
-    requires { ⌜ (n ≡ setCount (now b)) × (24 + 16 * n ≤ length (now b)) ⌝ }
+// Whether each master's notice is in order, where its sets are counted.
+fn notices_ok(b: &[u8], by: &[u8; 16]) -> bool
+    requires { ⌜ (24 ≤ length (now b)) × Counted (setCount (now b)) (now b) (now by) ⌝ }
     ensures { λ r. ⌜ r ≡ all (noticeOk (now (b .entry))) masters ⌝ }
 {
     let mut m: usize = 0;
     while m < 16 {
-        if !notice_ok(b, n, m) {
+        if !notice_ok(b, m, by[m]) {
             return false;
         }
         m += 1;
@@ -61,13 +60,11 @@ pub fn is_sheet(b: &[u8]) -> bool
     if b.len() < 24 + 16 * n {
         return false;
     }
-    if !csns_ascend(b, n) {
+    let mut by = [0u8; 16];
+    if !sets_ok(b, n, &mut by) {
         return false;
     }
-    if !sets_ok(b, n) {
-        return false;
-    }
-    if !notices_ok(b, n) {
+    if !notices_ok(b, &by) {
         return false;
     }
     true

@@ -82,6 +82,13 @@ fn main() {
     line("examine a full register / twin", ours, median(20, || (), || {
         assert!(twin::is_register(black_box(&register)));
     }));
+    // Joining examines the first sheet and then refuses the second, which is no sheet.
+    let ours = median(20, || (), || {
+        assert!(lib::join(black_box(&full), black_box(&[]), &mut out) == Err(lib::Refusal::SheetIllFormed));
+    });
+    line("examine a full sheet (64 x 8) / twin", ours, median(20, || (), || {
+        assert!(twin::is_sheet(black_box(&full)) && !twin::is_sheet(black_box(&[])));
+    }));
     let ours = median(20, || (), || {
         black_box(lib::put(black_box(&most), 1, 1, 63 * 16 + 15, &last, &mut out)).unwrap();
     });

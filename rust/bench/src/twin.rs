@@ -1,5 +1,9 @@
 //! The proved library's own algorithms in plain Rust: what a Rust programmer would write to do the same in the same way.
 
+fn u16_at(b: &[u8], at: usize) -> u16 {
+    u16::from_le_bytes(b[at..at + 2].try_into().unwrap())
+}
+
 fn u32_at(b: &[u8], at: usize) -> u32 {
     u32::from_le_bytes(b[at..at + 4].try_into().unwrap())
 }
@@ -28,6 +32,46 @@ pub fn is_register(b: &[u8]) -> bool {
     true
 }
 
+fn is_body(b: &[u8], mut at: usize, n: usize) -> bool {
+    let mut prev = 0;
+    for _ in 0..n {
+        let (kind, key) = (b[at], u32_at(b, at + 4));
+        if !(1..=3).contains(&kind) || b[at + 1..at + 4] != [0; 3] || key <= prev || kind == 3 && u64_at(b, at + 8) != 0 {
+            return false;
+        }
+        prev = key;
+        at += 16;
+    }
+    true
+}
+
+/// One walk over contents and bodies, which counts the sets of each master; then the notices.
+pub fn is_sheet(b: &[u8]) -> bool {
+    if b.len() < 24 {
+        return false;
+    }
+    let (epoch, roster, n) = (u32_at(b, 0), u16_at(b, 4), b[7] as usize);
+    let sound = b[6] == 0 || b[6] == 1 && n == 0 && b[8..24].iter().all(|x| *x == 255);
+    if epoch == 0 || roster == 0 || !sound || n > 64 || b.len() < 24 + 16 * n {
+        return false;
+    }
+    let (mut by, mut prev, mut first, mut at) = ([0u8; 16], 0, 0, 24 + 16 * n);
+    for c in (24..24 + 16 * n).step_by(16) {
+        let (csn, count) = (u64_at(b, c), u16_at(b, c + 14) as usize);
+        if first != 0 && csn <= prev || u32_at(b, c + 8) > epoch || roster >> (csn % 16) & 1 == 0 {
+            return false;
+        }
+        if u16_at(b, c + 12) as usize != first || !(1..=8).contains(&count) || b.len() - at < 16 * count || !is_body(b, at, count) {
+            return false;
+        }
+        by[(csn % 16) as usize] += 1;
+        prev = csn;
+        first += count;
+        at += 16 * count;
+    }
+    at == b.len() && (0..16).all(|m| b[8 + m] == 255 || roster >> m & 1 == 1 && b[8 + m] <= 64 && by[m] <= b[8 + m])
+}
+
 struct Sheet<'a> {
     b: &'a [u8],
     n: usize,
@@ -41,10 +85,10 @@ impl Sheet<'_> {
         u32_at(self.b, 24 + 16 * i + 8)
     }
     fn count(&self, i: usize) -> usize {
-        u16::from_le_bytes(self.b[24 + 16 * i + 14..24 + 16 * i + 16].try_into().unwrap()) as usize
+        u16_at(self.b, 24 + 16 * i + 14) as usize
     }
     fn record(&self, i: usize, j: usize) -> usize {
-        let first = u16::from_le_bytes(self.b[24 + 16 * i + 12..24 + 16 * i + 14].try_into().unwrap()) as usize;
+        let first = u16_at(self.b, 24 + 16 * i + 12) as usize;
         24 + 16 * self.n + 16 * (first + j)
     }
     fn key(&self, i: usize, j: usize) -> u32 {

@@ -1,9 +1,11 @@
 -- `is_sheet` answers what a sheet is.
+use mathlib.Core.Path.{refl}
 use native.Mathlib.Omega.{arith}
 use denote.Ref.{now}
-use borrow.Author.Needs.{needs}
+use borrow.Author.Tests.{not-false}
 use Rattle.laws.specs.Says.{yes-of, no-of, said-no, said-yes, clash}
 use Rattle.forms.proofs.SheetTests.{sheet-says}
+use borrow.Author.Needs.{needs}
 use Rattle.forms.proofs.sheet.is_sheet.Statement.{statement}
 use Rattle.forms.proofs.sheet.is_sheet.Tie as tie
 
@@ -31,27 +33,20 @@ add-if3 c = omega (arith, c .shared-slice-known2 .given 7)
 returns-3 : tie.Need-returns-3
 returns-3 c = no-of (sheet-says (now (c .before .before .before .before .before .before .args .b)) (c .before .before .before .before .before .shared-slice-known .given)) (λ r. omega arith)
 
-csns-ascend-requires : tie.Need-csns-ascend-requires
-csns-ascend-requires c κs = search needs
+sets-ok-requires : tie.Need-sets-ok-requires
+sets-ok-requires c κs = (omega arith, omega (arith, c .before .before .before .before .before .before .shared-slice-known .given 7), refl)
 
 returns-4 : tie.Need-returns-4
-returns-4 c = no-of (sheet-says (now (c .before .before .before .before .before .before .before .before .args .b)) (c .before .before .before .before .before .before .before .shared-slice-known .given)) (λ r. clash (r .1 .1 .1 .0) (search said-no))
-
-sets-ok-requires : tie.Need-sets-ok-requires
-sets-ok-requires c κs = search needs
-
-returns-5 : tie.Need-returns-5
-returns-5 c = no-of (sheet-says (now (c .before .before .before .before .before .before .before .before .before .before .args .b)) (c .before .before .before .before .before .before .before .before .before .shared-slice-known .given)) (λ r. clash (r .1 .1 .1 .1 .0) (search said-no))
+returns-4 c = no-of (sheet-says (now (c .before .before .before .before .before .before .before .before .before .args .b)) (c .before .before .before .before .before .before .before .before .shared-slice-known .given)) (λ r. clash (r .1 .1 .1 .0) (said-no (c .before .sets-ok .ensures .0) (c .if4 .taken)))
 
 notices-ok-requires : tie.Need-notices-ok-requires
-notices-ok-requires c κs = search needs
+notices-ok-requires c κs = (omega arith, c .before .before .sets-ok .ensures .1 (not-false _ (c .before .if4 .left)))
+
+returns-5 : tie.Need-returns-5
+returns-5 c = no-of (sheet-says (now (c .before .before .before .before .before .before .before .before .before .before .before .before .args .b)) (c .before .before .before .before .before .before .before .before .before .before .before .shared-slice-known .given)) (λ r. clash (r .1 .1 .1 .1) (search said-no))
 
 returns-6 : tie.Need-returns-6
-returns-6 c = no-of (sheet-says (now (c .before .before .before .before .before .before .before .before .before .before .before .before .args .b)) (c .before .before .before .before .before .before .before .before .before .before .before .shared-slice-known .given)) (λ r. clash (r .1 .1 .1 .1 .1) (search said-no))
-
-returns-7 : tie.Need-returns-7
-returns-7 c =
-    yes-of (sheet-says (now (c .before .before .before .before .before .before .before .before .before .before .before .before .args .b)) (c .before .before .before .before .before .before .before .before .before .before .before .shared-slice-known .given)) (omega arith, (search said-yes, (omega arith, (search said-yes, (search said-yes, search said-yes)))))
+returns-6 c = yes-of (sheet-says (now (c .before .before .before .before .before .before .before .before .before .before .before .before .args .b)) (c .before .before .before .before .before .before .before .before .before .before .before .shared-slice-known .given)) (omega arith, (search said-yes, (omega arith, (said-yes (c .before .before .before .before .sets-ok .ensures .0) (c .before .before .before .if4 .left), search said-yes))))
 
 pub is-sheet-spec : {M : Type 1} → statement M
 is-sheet-spec =
@@ -65,10 +60,8 @@ is-sheet-spec =
     mul-if3
     add-if3
     returns-3
-    csns-ascend-requires
-    returns-4
     sets-ok-requires
-    returns-5
+    returns-4
     notices-ok-requires
-    returns-6
-    returns-7)
+    returns-5
+    returns-6)

@@ -1,13 +1,9 @@
 -- `notice_ok` answers what is tested of a master's notice.
-use Prim.Native.Nat.{ℕ}
-use mathlib.Core.Path.{ap, _∙_}
 use mathlib.Core.Logic.{inl, inr, ⊎-elim}
 use native.Mathlib.Omega.{arith}
-use denote.Ref.{now}
-use borrow.Author.Needs.{needs}
 use Rattle.laws.specs.Says.{yes-of, no-of, said-no, said-yes, clash}
-use Rattle.forms.specs.SheetForm.{csnsIn, setsBy}
 use Rattle.forms.proofs.SheetTests.{notice-tests}
+use borrow.Author.Needs.{needs}
 use Rattle.forms.proofs.sheet.notice_ok.Statement.{statement}
 use Rattle.forms.proofs.sheet.notice_ok.Tie as tie
 
@@ -18,7 +14,7 @@ shared-slice-read-notice : tie.Need-shared-slice-read-notice
 shared-slice-read-notice c = search needs
 
 returns : tie.Need-returns
-returns c = yes-of (notice-tests _ _) (inl (c .if1 .taken))
+returns c = yes-of (notice-tests _ _ _ _) (inl (c .if1 .taken))
 
 cast-in-roster : tie.Need-cast-in-roster
 cast-in-roster c = search needs
@@ -27,30 +23,16 @@ in-roster-requires : tie.Need-in-roster-requires
 in-roster-requires c κs = search needs
 
 returns-2 : tie.Need-returns-2
-returns-2 c = no-of (notice-tests _ _) (λ r. ⊎-elim (λ x. omega arith) (λ x. clash (x .0) (search said-no)) r)
+returns-2 c = no-of (notice-tests _ _ _ _) (λ r. ⊎-elim (λ x. omega arith) (λ x. clash (x .0) (search said-no)) r)
 
 returns-3 : tie.Need-returns-3
-returns-3 c = no-of (notice-tests _ _) (λ r. ⊎-elim (λ x. omega arith) (λ x. omega arith) r)
-
-sets-by-requires : tie.Need-sets-by-requires
-sets-by-requires c κs = search needs
-
-cast-if4 : tie.Need-cast-if4
-cast-if4 c = search needs
+returns-3 c = no-of (notice-tests _ _ _ _) (λ r. ⊎-elim (λ x. omega arith) (λ x. omega arith) r)
 
 returns-4 : tie.Need-returns-4
-returns-4 c =
-    let a = c .before .before .before .before .before .before .before .before .args in
-    let p = c .before .before .before .before .before .before .before .before .pre in
-    let sets = c .before .sets-by .ensures ∙ ap (λ (k : ℕ). setsBy (a .m) (csnsIn k (now (a .b)) 24)) (p .0) in
-    no-of (notice-tests _ _) (λ r. ⊎-elim (λ x. omega arith) (λ x. omega arith) r)
+returns-4 c = no-of (notice-tests _ _ _ _) (λ r. ⊎-elim (λ x. omega arith) (λ x. omega arith) r)
 
 returns-5 : tie.Need-returns-5
-returns-5 c =
-    let a = c .before .before .before .before .before .before .before .before .args in
-    let p = c .before .before .before .before .before .before .before .before .pre in
-    let sets = c .before .sets-by .ensures ∙ ap (λ (k : ℕ). setsBy (a .m) (csnsIn k (now (a .b)) 24)) (p .0) in
-    yes-of (notice-tests _ _) (inr (search said-yes, (omega arith, omega arith)))
+returns-5 c = yes-of (notice-tests _ _ _ _) (inr (search said-yes, (omega arith, omega arith)))
 
 pub notice-ok-spec : {M : Type 1} → statement M
 notice-ok-spec =
@@ -63,7 +45,5 @@ notice-ok-spec =
     in-roster-requires
     returns-2
     returns-3
-    sets-by-requires
-    cast-if4
     returns-4
     returns-5)
