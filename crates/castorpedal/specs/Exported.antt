@@ -29,9 +29,11 @@ WithinClosed (closed.Refused x) = Unit {0}
 pub record Told (a : Answer) (r : CAnswer) : Type 0 where
   pub numbers : (r .code, r .len) ≡ answerNumbers a
 
+-- the same of closing's answer
 pub record ToldClosed (a : Closed) (r : CClosed) : Type 0 where
   pub numbers : (r .code, r .«register_len», r .«verdicts_len») ≡ closedNumbers a
 
+-- and of the read check's
 pub record ToldChecked (a : Checked) (r : CChecked) : Type 0 where
   pub numbers : (r .code, r .index, r .key, r .reason) ≡ checkedNumbers a
 

@@ -13,6 +13,7 @@ use Rattle.rules.specs.Sheet.{WriteSet, Sheet, noNotice, stateByte}
 abbrev pub noSet : WriteSet
 noSet = record { csn = 0; sen = 0; records = [] }
 
+-- what a place past the last record is taken to hold
 abbrev pub noRecord : Record
 noRecord = record { kind = 0; key = 0; value = 0 }
 

@@ -12,6 +12,7 @@ use Rattle.rules.specs.Promises.{over}
 abbrev pub setOf : ℕ → ℕ → Bytes → WriteSet
 setOf sen csn b = record { csn = csn; sen = sen; records = offeredRecords b }
 
+-- the notice that is offered by its numbers
 abbrev pub noticeBy : ℕ → ℕ → Notice
 noticeBy master n = record { master = master; number = n }
 

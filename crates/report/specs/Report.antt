@@ -25,9 +25,11 @@ decimal n = digits 20 n
 unfoldable pub field : Bytes → ℕ → Bytes
 field text n = text ++ decimal n
 
+-- the byte between two numbers
 abbrev pub space : Bytes
 space = 32 ∷ []
 
+-- the byte that ends a line
 abbrev pub lineEnd : Bytes
 lineEnd = 10 ∷ []
 

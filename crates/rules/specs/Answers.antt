@@ -32,12 +32,13 @@ reasonNumber Gone = 1
 reasonNumber OtherCsn = 2
 reasonNumber TooNew = 3
 
--- a verdict's code and key
+-- a verdict's code
 abbrev pub verdictCode : Verdict → ℕ
 verdictCode Commit = 1
 verdictCode (Lost k) = 2
 verdictCode (Unfit k) = 3
 
+-- 0 at commit, else the smallest key lost or found wrong
 abbrev pub verdictKey : Verdict → ℕ
 verdictKey Commit = 0
 verdictKey (Lost k) = k

@@ -31,9 +31,11 @@ present g k = any (λ r. eqb r.key k) g.rows
 unfoldable pub fitRecord : Register → Record → Bool
 fitRecord g r = if eqb r.kind insert then not (present g r.key) else present g r.key
 
+-- every change and delete names a present key, and every insert an absent one
 unfoldable pub fit : Register → WriteSet → Bool
 fit g w = all (fitRecord g) w.records
 
+-- a record of the set names the key
 unfoldable pub names : WriteSet → ℕ → Bool
 names w k = any (λ r. eqb r.key k) w.records
 
@@ -41,6 +43,7 @@ names w k = any (λ r. eqb r.key k) w.records
 unfoldable pub claims : Register → WriteSet → ℕ → Bool
 claims g w k = fit g w and names w k
 
+-- the sets that claim a key
 unfoldable pub claimants : Register → Sheet → ℕ → List WriteSet
 claimants g s k = keep (λ w. claims g w k) s.sets
 
@@ -56,6 +59,7 @@ foremost s ws w = all (λ v. eqb v.csn w.csn or precedes (markIn s w) (markIn s 
 unfoldable pub winner : Register → Sheet → ℕ → Option WriteSet
 winner g s k = first (foremost s (claimants g s k)) (claimants g s k)
 
+-- the winner, if there is one, is w: csns of a sheet ascend, so the csn tells the set
 unfoldable pub isSet : WriteSet → Option WriteSet → Bool
 isSet w none = false
 isSet w (some v) = eqb v.csn w.csn
@@ -64,10 +68,11 @@ isSet w (some v) = eqb v.csn w.csn
 unfoldable pub wins : Register → Sheet → WriteSet → ℕ → Bool
 wins g s w k = isSet w (winner g s k)
 
--- the first record found wrong, and the first whose key is lost; keys ascend, so each has the smallest such key
+-- the first record found wrong; keys ascend, so it has the smallest such key
 unfoldable pub firstWrong : Register → WriteSet → Option Record
 firstWrong g w = first (λ r. not (fitRecord g r)) w.records
 
+-- the first record whose key the set does not win; it too has the smallest such key
 unfoldable pub firstLost : Register → Sheet → WriteSet → Option Record
 firstLost g s w = first (λ r. not (wins g s w r.key)) w.records
 
@@ -77,9 +82,11 @@ judged (some r) l = Unfit r.key
 judged none (some r) = Lost r.key
 judged none none = Commit
 
+-- THE VERDICT ON A SET
 unfoldable pub verdict : Register → Sheet → WriteSet → Verdict
 verdict g s w = judged (firstWrong g w) (firstLost g s w)
 
+-- the verdict is commit
 unfoldable pub isCommit : Verdict → Bool
 isCommit Commit = true
 isCommit (Lost k) = false
@@ -89,6 +96,7 @@ isCommit (Unfit k) = false
 unfoldable pub commits : Register → Sheet → WriteSet → Bool
 commits g s w = isCommit (verdict g s w)
 
+-- the winner's mark, or the old one where there is no winner
 unfoldable pub markBy : Sheet → Mark → Option WriteSet → Mark
 markBy s old none = old
 markBy s old (some w) = markIn s w
@@ -105,10 +113,12 @@ applied g s = flat (λ w. w.records) (keep (commits g s) s.sets)
 unfoldable pub appliedTo : List Record → ℕ → Option Record
 appliedTo rs k = first (λ r. eqb r.key k) rs
 
+-- the value that a row takes: that of the applied record, if there is one
 unfoldable pub valueBy : Option Record → ℕ → ℕ
 valueBy none old = old
 valueBy (some r) old = r.value
 
+-- the applied record, if there is one, is a delete
 unfoldable pub isDeleted : Option Record → Bool
 isDeleted none = false
 isDeleted (some r) = eqb r.kind delete
@@ -128,6 +138,7 @@ unfoldable pub putRow : Row → List Row → List Row
 putRow r [] = r ∷ []
 putRow r (q ∷ qs) = if ltb r.key q.key then r ∷ q ∷ qs else q ∷ putRow r qs
 
+-- rows, one after the other, among rows in the order of their keys
 unfoldable pub putRows : List Row → List Row → List Row
 putRows [] qs = qs
 putRows (r ∷ rs) qs = putRow r (putRows rs qs)
@@ -136,6 +147,7 @@ putRows (r ∷ rs) qs = putRow r (putRows rs qs)
 unfoldable pub rowsAfter : Register → Sheet → List Record → List Row
 rowsAfter g s rs = putRows (map (insertedRow g s) (keep (λ r. eqb r.kind insert) rs)) (flat (rowAfter g s rs) g.rows)
 
+-- THE NEXT ROWS
 unfoldable pub nextRows : Register → Sheet → List Row
 nextRows g s = rowsAfter g s (applied g s)
 

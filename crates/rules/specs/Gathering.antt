@@ -18,10 +18,12 @@ pub data Offer : Type 0 where
   aSet : WriteSet → Offer
   aNotice : Notice → Offer
 
+-- the set that an offer is, if it is one
 unfoldable pub setIn : Offer → List WriteSet
 setIn (aSet w) = w ∷ []
 setIn (aNotice n) = []
 
+-- the notice that an offer is, if it is one
 unfoldable pub noticeIn : Offer → List Notice
 noticeIn (aSet w) = []
 noticeIn (aNotice n) = n ∷ []
@@ -34,9 +36,11 @@ setsAmong = flat setIn
 unfoldable pub noticesAmong : List Offer → List Notice
 noticesAmong = flat noticeIn
 
+-- two records are equal in all fields
 unfoldable pub sameRecord : Record → Record → Bool
 sameRecord a b = eqb a.kind b.kind and eqb a.key b.key and eqb a.value b.value
 
+-- two lists of records are equal
 unfoldable pub sameRecords : List Record → List Record → Bool
 sameRecords [] [] = true
 sameRecords [] (b ∷ bs) = false
@@ -101,6 +105,7 @@ spoils os = (sharedCsn os or twoNotices os) or (tooMany os or overNotice os)
 abbrev pub noNotices : List ℕ
 noNotices = replicate 16 noNotice
 
+-- the sound sheet with these notices and sets
 unfoldable pub soundOf : ℕ → ℕ → List ℕ → List WriteSet → Sheet
 soundOf e r notices sets = record { epoch = e; roster = r; spoiled = false; notices = notices; sets = sets }
 
@@ -108,6 +113,7 @@ soundOf e r notices sets = record { epoch = e; roster = r; spoiled = false; noti
 unfoldable pub emptySheet : ℕ → ℕ → Sheet
 emptySheet e r = soundOf e r noNotices []
 
+-- the spoiled sheet: no set and no notice
 unfoldable pub spoiledSheet : ℕ → ℕ → Sheet
 spoiledSheet e r = record { epoch = e; roster = r; spoiled = true; notices = noNotices; sets = [] }
 

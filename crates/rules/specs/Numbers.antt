@@ -14,6 +14,7 @@ fits n x = ltb x (256 ^ n)
 abbrev pub masterOf : ℕ → ℕ
 masterOf csn = csn % 16
 
+-- a mark is cen, sen, csn
 abbrev pub markOf : ℕ → ℕ → ℕ → Mark
 markOf cen sen csn = record { cen = cen; sen = sen; csn = csn }
 

@@ -30,14 +30,17 @@ pub record Promise (o : Outcome Bytes) (before : Bytes) (answer : Answer) (after
   pub answered : answerNumbers answer ≡ told o
   pub buffer : after ≡ left o before
 
+-- the same of closing, with two lengths
 unfoldable pub toldClosing : Outcome Closing → ℕ × ℕ × ℕ
 toldClosing (refused n) = (n, 0, 0)
 toldClosing (done c) = (0, length c.register, length c.verdicts)
 
+-- what an outcome of closing leaves in the buffer for the next register
 unfoldable pub leftRegister : Outcome Closing → Bytes → Bytes
 leftRegister (refused n) old = old
 leftRegister (done c) old = over old c.register
 
+-- and in the buffer for the verdicts
 unfoldable pub leftVerdicts : Outcome Closing → Bytes → Bytes
 leftVerdicts (refused n) old = old
 leftVerdicts (done c) old = over old c.verdicts
@@ -48,6 +51,7 @@ pub record ClosePromise (o : Outcome Closing) (before-next before-verdicts : Byt
   pub next : after-next ≡ leftRegister o before-next
   pub verdicts : after-verdicts ≡ leftVerdicts o before-verdicts
 
+-- the refusal's number or 0, then index, key and reason, all three 0 at a pass or a refusal
 unfoldable pub toldFinding : Outcome Finding → ℕ × ℕ × ℕ × ℕ
 toldFinding (refused n) = (n, 0, 0, 0)
 toldFinding (done passes) = (0, 0, 0, 0)

@@ -10,13 +10,15 @@ use Rattle.rules.specs.declared.answer.Reason.the-variants.{Gone, OtherC
 use Rattle.rules.specs.Lists.{if_then_else_, first}
 use Rattle.rules.specs.Register.{runRegister, Register}
 
--- the modes
+-- mode 1
 abbrev pub readCommitted : ℕ
 readCommitted = 1
 
+-- mode 2
 abbrev pub repeatableRead : ℕ
 repeatableRead = 2
 
+-- mode 3
 abbrev pub snapshotIsolation : ℕ
 snapshotIsolation = 3
 
@@ -32,6 +34,7 @@ failsRow mode lsn e r =
     then if eqb (r .mark .csn) e.csn then none else some OtherCsn
     else if ltb (lsn + 1) (r .mark .cen) then some TooNew else none
 
+-- a row that is gone fails, one that is there by its mark
 unfoldable pub failsFound : ℕ → ℕ → Read → Option Row → Option Reason
 failsFound mode lsn e none = some Gone
 failsFound mode lsn e (some r) = failsRow mode lsn e r
@@ -41,6 +44,7 @@ unfoldable pub failing : Register → ℕ → ℕ → Read → Option Reason
 failing g mode lsn e =
     if eqb mode readCommitted then none else failsFound mode lsn e (first (λ r. eqb r.key e.key) g.rows)
 
+-- the entry at index i with key k fails for the reason, or else the rest tells
 unfoldable pub findingOr : Option Reason → ℕ → ℕ → Finding → Finding
 findingOr none i k rest = rest
 findingOr (some r) i k rest = fails i k r
@@ -50,6 +54,7 @@ unfoldable pub checkFrom : Register → ℕ → ℕ → ℕ → List Read → Fi
 checkFrom g mode lsn i [] = passes
 checkFrom g mode lsn i (e ∷ es) = findingOr (failing g mode lsn e) i e.key (checkFrom g mode lsn (suc i) es)
 
+-- one entry more in front, if the others are entries
 unfoldable pub withRead : ℕ → ℕ → Option (List Read) → Option (List Read)
 withRead k c none = none
 withRead k c (some es) = some (record { key = k; csn = c } ∷ es)

@@ -24,16 +24,19 @@ pub data Outcome (A : Type 0) : Type 0 where
   refused : ℕ → Outcome A
   done : A → Outcome A
 
--- the least lengths of the output buffers
+-- the least length of an output buffer for a sheet
 abbrev pub sheetRoom : ℕ
 sheetRoom = 9240
 
+-- for a register
 abbrev pub registerRoom : ℕ
 registerRoom = 28680
 
+-- for the verdicts
 abbrev pub verdictRoom : ℕ
 verdictRoom = 320
 
+-- the most entries of a read check
 abbrev pub maxReads : ℕ
 maxReads = 32
 
@@ -51,6 +54,7 @@ setWith epoch sen csn none = none
 setWith epoch sen csn (some rs) =
     if leb 1 epoch and leb sen epoch then some (aSet (record { csn = csn; sen = sen; records = rs })) else none
 
+-- the same from its record bytes
 unfoldable pub offeredSet : ℕ → ℕ → ℕ → Bytes → Option Offer
 offeredSet epoch sen csn b = setWith epoch sen csn (readRecords b)
 
@@ -77,6 +81,7 @@ putOutcome sheet epoch sen csn b room = offerTo (readSheet sheet) (offeredSet ep
 unfoldable pub noticeOutcome : Bytes → ℕ → ℕ → ℕ → ℕ → Outcome Bytes
 noticeOutcome sheet epoch master n room = offerTo (readSheet sheet) (offeredNotice epoch master n) epoch master room
 
+-- joining of two sheets, each of them none if ill-formed
 unfoldable pub joinSheets : Option Sheet → Option Sheet → ℕ → Outcome Bytes
 joinSheets none b room = refused 2
 joinSheets (some a) none room = refused 2
@@ -99,9 +104,11 @@ pub record Closing : Type 0 where
   pub register : Bytes
   pub verdicts : Bytes
 
+-- what closing writes of a register and a sheet that nothing refuses
 unfoldable pub closing : Register → Sheet → Closing
 closing g s = record { register = registerBytes (next g s); verdicts = flat verdictBytes (verdicts g s) }
 
+-- closing of a register and a sheet, each of them none if ill-formed
 unfoldable pub closeSheet : Option Register → Option Sheet → ℕ → ℕ → Outcome Closing
 closeSheet none s nextRoom room = refused 1
 closeSheet (some g) none nextRoom room = refused 2
@@ -122,6 +129,7 @@ unfoldable pub badCheck : Register → ℕ → ℕ → List Read → Bool
 badCheck g mode lsn es =
     not (leb 1 mode and leb mode snapshotIsolation) or any (λ e. eqb e.key 0) es or ltb maxReads (length es) or ltb g.snapshot lsn
 
+-- the read check of a register and entries, each of them none if ill-formed
 unfoldable pub checkReads : Option Register → ℕ → ℕ → Option (List Read) → Outcome Finding
 checkReads none mode lsn es = refused 1
 checkReads (some g) mode lsn none = refused 10

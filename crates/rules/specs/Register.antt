@@ -16,9 +16,11 @@ pub record Register : Type 0 where
   pub snapshot : ℕ
   pub rows : List Row
 
+-- a row's key
 abbrev pub keyOf : Row → ℕ
 keyOf r = r.key
 
+-- the most rows of a register
 abbrev pub maxRows : ℕ
 maxRows = 1024
 
@@ -48,6 +50,7 @@ unfoldable pub rowsIn : ℕ → Bytes → ℕ → List Row
 rowsIn zero b at = []
 rowsIn (suc n) b at = rowIn b at ∷ rowsIn n b (at + 28)
 
+-- the register that the bytes stand for, if they are one
 unfoldable pub registerIn : Bytes → Register
 registerIn b = record { snapshot = word 4 b 0; rows = rowsIn (word 4 b 4) b 8 }
 

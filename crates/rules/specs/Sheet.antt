@@ -29,28 +29,35 @@ pub record Sheet : Type 0 where
 abbrev pub noNotice : ℕ
 noNotice = 255
 
+-- the most sets of a sheet
 abbrev pub maxSets : ℕ
 maxSets = 64
 
+-- the most records of a set
 abbrev pub maxRecords : ℕ
 maxRecords = 8
 
--- the kinds of records
+-- kind 1: the key is present
 abbrev pub change : ℕ
 change = 1
 
+-- kind 2: the key is absent
 abbrev pub insert : ℕ
 insert = 2
 
+-- kind 3: the key is present, the value 0
 abbrev pub delete : ℕ
 delete = 3
 
+-- masters 0 to 15
 abbrev pub masters : List ℕ
 masters = upFrom 0 16
 
+-- a record's key
 abbrev pub recordKey : Record → ℕ
 recordKey r = r.key
 
+-- a set's csn
 abbrev pub csnOf : WriteSet → ℕ
 csnOf w = w.csn
 
@@ -74,6 +81,7 @@ isKind k = leb change k and leb k delete
 unfoldable pub soundValue : ℕ → ℕ → Bool
 soundValue kind v = fits 8 v and (not (eqb kind delete) or eqb v 0)
 
+-- a record: a kind, a key and a value that the kind may have
 unfoldable pub soundRecord : Record → Bool
 soundRecord r = isKind r.kind and fits 4 r.key and soundValue r.kind r.value
 
@@ -93,6 +101,7 @@ soundNotice roster m notice n = eqb notice noNotice or inRoster roster m and leb
 unfoldable pub bare : Sheet → Bool
 bare s = eqb (length s.sets) 0 and all (λ n. eqb n noNotice) s.notices
 
+-- every rule of a sheet: the head, the notices, the sets in csn order, and a spoiled one is bare
 unfoldable pub soundSheet : Sheet → Bool
 soundSheet s =
     leb 1 s.epoch and fits 4 s.epoch and leb 1 s.roster and fits 2 s.roster
@@ -107,6 +116,7 @@ soundSheet s =
 unfoldable pub recordBytes : Record → Bytes
 recordBytes r = (r.kind ∷ 0 ∷ 0 ∷ 0 ∷ []) ++ le 4 r.key ++ le 8 r.value
 
+-- records, end to end
 unfoldable pub recordsBytes : List Record → Bytes
 recordsBytes = flat recordBytes
 
@@ -148,6 +158,7 @@ setsIn (suc n) b c at =
     record { csn = word 8 b c; sen = word 4 b (c + 8); records = recordsIn (word 2 b (c + 14)) b at }
     ∷ setsIn n b (c + 16) (at + 16 * word 2 b (c + 14))
 
+-- the sheet that the bytes stand for, if they are one
 unfoldable pub sheetIn : Bytes → Sheet
 sheetIn b =
     record {
@@ -166,13 +177,15 @@ isSheet = wellFormed sheetIn soundSheet sheetBytes
 unfoldable pub readSheet : Bytes → Option Sheet
 readSheet = read sheetIn soundSheet sheetBytes
 
--- the same of the record bytes of an offered set
+-- the records that the bytes of an offered set stand for, if they are whole records
 unfoldable pub offeredRecords : Bytes → List Record
 offeredRecords b = recordsIn (length b / 16) b 0
 
+-- the bytes are one to eight records of a set
 unfoldable pub areRecords : Bytes → Bool
 areRecords = wellFormed offeredRecords soundRecords recordsBytes
 
+-- the records that the bytes are, or none exactly if they are ill-formed
 unfoldable pub readRecords : Bytes → Option (List Record)
 readRecords = read offeredRecords soundRecords recordsBytes
 
