@@ -19,9 +19,8 @@ use Rattle.rules.specs.Sheet.{WriteSet, Sheet, csnOf, soundSheet}
 use Rattle.rules.specs.Closing.{names, markIn, winner, isSet, wins}
 use Rattle.laws.specs.Says.{Says, is-eq, is-le, itself, _also_, _or-else_, no-of, clash}
 use Rattle.laws.specs.Precedence.{transitive, total}
-use Rattle.laws.specs.Distinct.{Sorted, nil, cons, tri, less, more, equal}
-use Rattle.laws.specs.Rising.{Rising, nil, cons}
-use Rattle.laws.specs.Winners.{sheet-sorted, sheet-apart, Claims, winner-is, winner-none, →wins}
+use Rattle.laws.specs.Distinct.{sheet-sorted, tri, less, more, equal}
+use Rattle.laws.specs.Winners.{sheet-apart, Claims, winner-is, winner-none, →wins}
 use Rattle.laws.specs.Commits.{set-records, names-own, names→}
 use Rattle.forms.specs.SheetReadings.{setAt, noSet, recordAt}
 use Rattle.closing.specs.Judged.{wrongKey, Tells, numbered, Placed, isAhead}
@@ -42,14 +41,10 @@ placed-not w key r p h e =
 
 -- ---- no two sets of a sound sheet have one commit number
 
-sorted-rising : {ws : List WriteSet} → Sorted ws → Rising csnOf ws
-sorted-rising nil = nil
-sorted-rising (cons f s) = cons f (sorted-rising s)
-
 pub csn-one : (s : Sheet) (i j : ℕ) → soundSheet s ≡ true → i < length s.sets → j < length s.sets → setAt s i .csn ≡ setAt s j .csn → i ≡ j
 unfolding setAt
 csn-one s i j e h k c =
-    let r = sorted-rising (sheet-sorted s e) in
+    let r = sheet-sorted s e in
     elim (tri i j) [
       | less l ↦ let a = rising-at csnOf noSet r i j l k in absurd (omega arith)
       | equal q ↦ q

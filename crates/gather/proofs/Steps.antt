@@ -15,8 +15,8 @@ use Rattle.words.specs.Words.{Bytes}
 use Rattle.rules.specs.Lists.{if_then_else_}
 use Rattle.rules.specs.Sheet.{WriteSet, sheetIn}
 use Rattle.rules.specs.Gathering.{distinct, clash, someTwo}
-use Rattle.laws.specs.Distinct.{Sorted, someTwo-in}
-use Rattle.laws.specs.Merging.{sheet-sorted, drop-sorted, next-first, next-second, next-both, next-left, next-right, distinct-le, distinct-some, clash-first, clash-second, clash-both, clash-not, clash-left, clash-right}
+use Rattle.laws.specs.Distinct.{Sorted, sheet-sorted, someTwo-in}
+use Rattle.laws.specs.Merging.{drop-sorted, next-first, next-second, next-both, next-left, next-right, distinct-le, distinct-some, clash-first, clash-second, clash-both, clash-not, clash-left, clash-right}
 use Rattle.forms.specs.SheetReadings.{noSet, setAt, nextOf}
 use Rattle.forms.proofs.SheetPlaces.{sheet-sound}
 use Rattle.gather.specs.declared.place.Place.{Place}

@@ -11,13 +11,12 @@ use lib.Dec.{eqb}
 use Rattle.rules.specs.declared.row.Record.{Record}
 use Rattle.rules.specs.Lists.{if_then_else_, keep, first, flat}
 use Rattle.rules.specs.Register.{Register}
-use Rattle.rules.specs.Sheet.{WriteSet, Sheet, recordKey, soundRecord, soundRecords, soundSheet}
+use Rattle.rules.specs.Sheet.{WriteSet, csnOf, Sheet, recordKey, soundRecord, soundRecords, soundSheet}
 use Rattle.rules.specs.Closing.{fitRecord, commits, applied, appliedTo}
 use Rattle.laws.specs.Tests.{right}
 use Rattle.laws.specs.ListLaws.{all→, keep→, →keep, first→, first-none, flat→, →flat}
-use Rattle.laws.specs.Rising.{Rising, nil, cons}
-use Rattle.laws.specs.Distinct.{Sorted, nil, cons, keep-sorted}
-use Rattle.laws.specs.Winners.{sheet-sorted}
+use Rattle.laws.specs.Rising.{Rising, nil, cons, rising-keep}
+use Rattle.laws.specs.Distinct.{Sorted, sheet-sorted}
 use Rattle.laws.specs.Commits.{set-records, records-rising, commits→, commits-apart}
 
 -- no two of the records have one key
@@ -54,7 +53,7 @@ flat-each : {ws : List WriteSet} → Sorted ws → ((w : WriteSet) → List·Mem
     → OneEach (flat (λ w. w.records) ws)
 unfolding flat
 flat-each nil d a = none-left
-flat-each (cons {w} {ws} f s) d a =
+flat-each (cons {x = w} {xs = ws} f s) d a =
     each-append (d w (List·Memᴰ·head refl))
     (flat-each s (λ v m. d v (List·Memᴰ·tail m)) (λ u v p q m k. a u v p q (List·Memᴰ·tail m) (List·Memᴰ·tail k)))
     (λ p q m k c. let v = flat→ (λ w. w.records) ws k in clash (v .0) (f (v .0) (v .1)) (a w (v .0) p q (List·Memᴰ·head refl) (List·Memᴰ·tail (v .1)) m (v .2) c))
@@ -89,7 +88,7 @@ pub applied-each : (g : Register) (s : Sheet) → soundSheet s ≡ true → OneE
 unfolding applied
 applied-each g s e =
     let in-sheet : (w : WriteSet) → List·Memᴰ w (keep (commits g s) s.sets) → List·Memᴰ w s.sets × (commits g s w ≡ true) = λ w m. keep→ (commits g s) s.sets m in
-    flat-each (keep-sorted (commits g s) (sheet-sorted s e))
+    flat-each (rising-keep csnOf (commits g s) (sheet-sorted s e))
     (λ w m. rising-each (records-rising w.records (set-records s w e (in-sheet w m .0)) .0))
     (λ v w p q m n k l c. commits-apart g s v w p q e (in-sheet v m .0) (in-sheet w n .0) (in-sheet v m .1) (in-sheet w n .1) k l c)
 

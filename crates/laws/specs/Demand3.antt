@@ -4,7 +4,7 @@ use Prim.Native.Nat.{ℕ, _<_, _≤_}
 use mathlib.Core.Path.{_≡_, refl, sym, _∙_, ap, ap₂, subst}
 use mathlib.Core.Logic.{⊎-elim}
 use mathlib.Core.Bool.{true}
-use mathlib.Core.List.{List, [], _∷_, _++_, List·Memᴰ·not-nil, List·Memᴰ·append-cases, List·Memᴰ·eq-of-singleton, Memᴰ·append-left, Memᴰ·append-right}
+use mathlib.Core.List.{List, [], _∷_, _++_, List·Memᴰ·not-nil, List·Memᴰ·append-cases, Memᴰ·append-left, Memᴰ·append-right}
 use mathlib.Core.Option.{Option, some, Option·some-injective}
 use native.Mathlib.Omega.{arith}
 use lib.Dec.{leb}
@@ -17,7 +17,7 @@ use Rattle.laws.specs.Tests.{both}
 use Rattle.laws.specs.ListLaws.{Sub}
 use Rattle.laws.specs.SheetLaws.{read-written}
 use Rattle.laws.specs.GatherLaws.{gathered-put, gathered-join, gathered-spoiled, epoch-of, roster-of, spoiled-of, same-offers, spoils-more}
-use Rattle.laws.specs.GatherSound.{FairOffer, Fair, Head, proper, gathered-read, gathered-none, spoiled-sound}
+use Rattle.laws.specs.GatherSound.{FairOffer, Fair, Head, one-fair, proper, gathered-read, gathered-none, spoiled-sound}
 use Rattle.laws.specs.Trees.{Number, Tree, opened, put, notice, join, paper, andThen, ends, offersIn, epochOf, rosterOf, Within, itself, under-put, under-notice, under-left, under-right}
 use Rattle.laws.specs.NotRefused.{then→, open→, offer→, setBy, set→, notice→, join→}
 
@@ -33,9 +33,6 @@ ended-read t b k = ap readSheet (k .bytes) ∙ gathered-read (epochOf t) (roster
 
 fair-append : (e r : ℕ) (xs ys : List Offer) → Fair e r xs → Fair e r ys → Fair e r (xs ++ ys)
 fair-append e r xs ys f g o m = ⊎-elim (f o) (g o) (List·Memᴰ·append-cases xs m)
-
-fair-one : (e r : ℕ) (o : Offer) → FairOffer e r o → Fair e r (o ∷ [])
-fair-one e r o f x m = subst (FairOffer e r) (sym (List·Memᴰ·eq-of-singleton m)) f
 
 -- an offer that went in
 taken : (t : Tree) (s : Bytes) (o : Option Offer) (e m room : ℕ) (b : Bytes) → Ended t s → offerTo (readSheet s) o e m room ≡ done b
@@ -56,7 +53,7 @@ ended-put t e sen csn rs room s b k p =
     let o = aSet (setBy csn.value sen (offeredRecords rs)) in
     record {
       head = k .head;
-      fair = fair-append _ _ (offersIn t) (o ∷ []) (k .fair) (fair-one _ _ o (both csn.fit (both a (both (q .3) (w .2)))));
+      fair = fair-append _ _ (offersIn t) (o ∷ []) (k .fair) (one-fair _ _ o (both csn.fit (both a (both (q .3) (w .2)))));
       bytes = q .4 ∙ ap (λ (x : Offer). sheetBytes (gathered (epochOf t) (rosterOf t) (offersIn t ++ (x ∷ [])))) (w .0);
     }
 
@@ -71,7 +68,7 @@ ended-notice t e m n room s b k p =
     let o = aNotice (record { master = m; number = n }) in
     record {
       head = k .head;
-      fair = fair-append _ _ (offersIn t) (o ∷ []) (k .fair) (fair-one _ _ o (below-16 (w .1), w .2, q .3));
+      fair = fair-append _ _ (offersIn t) (o ∷ []) (k .fair) (one-fair _ _ o (below-16 (w .1), w .2, q .3));
       bytes = q .4 ∙ ap (λ (x : Offer). sheetBytes (gathered (epochOf t) (rosterOf t) (offersIn t ++ (x ∷ [])))) (w .0);
     }
 

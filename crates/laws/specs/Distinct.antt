@@ -1,5 +1,5 @@
--- The distinct sets in csn order: `Sorted` says that each set's csn is below all later ones'; `distinct` is so sorted, has the sets
--- that are offered, and sorted lists of the same sets are equal.
+-- The distinct sets in csn order: `Sorted` says that each set's csn is below all later ones'; `distinct` is so sorted and has the sets
+-- that are offered, and the sets of a sound sheet are sorted.
 use Prim.Native.Nat.{ℕ, _<_, _≤_}
 use mathlib.Core.Path.{_≡_, refl, sym, _∙_, ap, ap₂}
 use mathlib.Core.Logic.{_⊎_, inl, inr, ⊎-elim}
@@ -7,15 +7,15 @@ use mathlib.Core.Bool.{Bool, true, false, not, false≢true}
 use mathlib.Core.List.{List, [], _∷_, List·Memᴰ, List·Memᴰ·head, List·Memᴰ·tail, List·Memᴰ·not-nil, List·Memᴰ·cases-cons, Memᴰ·cast}
 use native.Mathlib.Omega.{arith}
 use borrow.Author.Tests.{ltb-true, ltb-false, eqb-true, lt-ltb, le-ltb, eq-eqb}
-use lib.ListN.{length}
 use lib.Dec.{ltb, eqb}
 use Rattle.rules.specs.declared.row.Record.{Record}
-use Rattle.rules.specs.Lists.{if_then_else_, any, keep, count}
+use Rattle.rules.specs.Lists.{any, count}
 use Rattle.rules.specs.Numbers.{masterOf}
-use Rattle.rules.specs.Sheet.{WriteSet, setsOf}
+use Rattle.rules.specs.Sheet.{WriteSet, Sheet, csnOf, setsOf, soundSheet}
 use Rattle.rules.specs.Gathering.{sameRecord, sameRecords, sameSet, someTwo, clash, putSet, distinct}
 use Rattle.laws.specs.Tests.{left, right, both}
 use Rattle.laws.specs.ListLaws.{Sub, any→, →any, keep→, →keep}
+use Rattle.laws.specs.Rising.{Rising, nil, cons, ascend→, rising-le, rising-keep}
 
 sameRecord→ : (a b : Record) → sameRecord a b ≡ true → a ≡ b
 unfolding sameRecord
@@ -142,9 +142,8 @@ pub →distinct : (ws : List WriteSet) {w : WriteSet} → Apart ws → List·Mem
 →distinct ws {w} a m = let r = distinct-here ws m in Memᴰ·cast (sym (a (r .0) w (distinct→ ws (r .1)) m (r .2))) (r .1)
 
 -- each set's csn is below all later ones'
-pub data Sorted : List WriteSet → Type 0 where
-  nil : Sorted []
-  cons : {w : WriteSet} {ws : List WriteSet} → ((v : WriteSet) → List·Memᴰ v ws → w.csn < v.csn) → Sorted ws → Sorted (w ∷ ws)
+abbrev pub Sorted : List WriteSet → Type 0
+Sorted = Rising csnOf
 
 below-eq : (v : WriteSet) {u x : WriteSet} → x ≡ u → v.csn < u.csn → v.csn < x.csn
 below-eq v e h = let c = ap (λ (x : WriteSet). x.csn) e in omega arith
@@ -155,7 +154,7 @@ below-trans v u x h k = omega arith
 put-sorted : (v : WriteSet) {us : List WriteSet} → Sorted us → Sorted (putSet v us)
 unfolding putSet
 put-sorted v nil = cons (λ x m. absurd (List·Memᴰ·not-nil m)) nil
-put-sorted v (cons {w = u} {ws = us} f s) =
+put-sorted v (cons {x = u} {xs = us} f s) =
     elim (tri v.csn u.csn) [
       | less h ↦
           rw (put-less v u us h)
@@ -169,54 +168,14 @@ unfolding distinct
 sorted [] = nil
 sorted (w ∷ ws) = put-sorted w (sorted ws)
 
-pub no-loop : (v w : WriteSet) → v.csn < w.csn → w.csn < v.csn → ⊥
-no-loop v w h k = omega arith
+-- the sets of a sound sheet are sorted
+pub sheet-sorted : (s : Sheet) → soundSheet s ≡ true → Sorted s.sets
+unfolding soundSheet
+sheet-sorted s e = ascend→ csnOf s.sets (left _ _ (right _ _ (right _ _ (right _ _ (right _ _ (right _ _ (right _ _ (right _ _ e))))))))
 
-not-below : {v w : WriteSet} → v ≡ w → v.csn < w.csn → ⊥
-not-below e h = let c = ap (λ (x : WriteSet). x.csn) e in omega arith
-
--- what is above the head of one list, and in the other, is in the other's tail
-tails : {x y : WriteSet} {xs ys : List WriteSet} → x ≡ y → ((v : WriteSet) → List·Memᴰ v xs → x.csn < v.csn) → Sub (x ∷ xs) (y ∷ ys) → Sub xs ys
-tails e f s z m = ⊎-elim (λ q. absurd (not-below (e ∙ sym q) (f z m))) (λ k. k) (List·Memᴰ·cases-cons (s z (List·Memᴰ·tail m)))
-
--- sorted lists of the same sets are equal
-pub sorted-unique : {xs ys : List WriteSet} → Sorted xs → Sorted ys → Sub xs ys → Sub ys xs → xs ≡ ys
-sorted-unique nil nil s t = refl
-sorted-unique nil (cons {w = y} g q) s t = absurd (List·Memᴰ·not-nil (t y (List·Memᴰ·head refl)))
-sorted-unique (cons {w = x} f p) nil s t = absurd (List·Memᴰ·not-nil (s x (List·Memᴰ·head refl)))
-sorted-unique (cons {w = x} {ws = xs} f p) (cons {w = y} {ws = ys} g q) s t =
-    let e : x ≡ y =
-    ⊎-elim (λ e. e)
-    (λ k. ⊎-elim (λ e. sym e) (λ l. absurd (no-loop x y (f y l) (g x k))) (List·Memᴰ·cases-cons (t y (List·Memᴰ·head refl))))
-    (List·Memᴰ·cases-cons (s x (List·Memᴰ·head refl))) in
-    ap₂ _∷_ e (sorted-unique p q (tails e f s) (tails (sym e) g t))
-
--- and fewer sets make no longer list
-pub sorted-le : {xs ys : List WriteSet} → Sorted xs → Sorted ys → Sub xs ys → length xs ≤ length ys
-sorted-le nil q s = omega arith
-sorted-le (cons {w = x} f p) nil s = absurd (List·Memᴰ·not-nil (s x (List·Memᴰ·head refl)))
-sorted-le (cons {w = x} {ws = xs} f p) (cons {w = y} {ws = ys} g q) s =
-    ⊎-elim
-    (λ e. let h = sorted-le p q (tails e f s) in omega arith)
-    (λ k.
-    let t : Sub (x ∷ xs) ys =
-    λ z m. ⊎-elim (λ e. Memᴰ·cast e k)
-    (λ l. ⊎-elim (λ e. absurd (not-below (sym e) (below-trans y x z (g x k) (f z l)))) (λ o. o) (List·Memᴰ·cases-cons (s z m)))
-    (List·Memᴰ·cases-cons m) in
-    let h = sorted-le (cons f p) q t in omega arith)
-    (List·Memᴰ·cases-cons (s x (List·Memᴰ·head refl)))
-
-pub keep-sorted : (p : WriteSet → Bool) {ws : List WriteSet} → Sorted ws → Sorted (keep p ws)
-unfolding keep
-keep-sorted p nil = nil
-keep-sorted p (cons {w} {ws} f s) = go (p w) (keep-sorted p s)
-  where
-    go : (t : Bool) → Sorted (keep p ws) → Sorted (if t then w ∷ keep p ws else keep p ws)
-    go true k = cons (λ v m. f v (keep→ p ws m .0)) k
-    go false k = k
-
+-- fewer sets have no more of a master's
 pub setsOf-le : (m : ℕ) {xs ys : List WriteSet} → Sorted xs → Sorted ys → Sub xs ys → setsOf m xs ≤ setsOf m ys
 unfolding setsOf count
 setsOf-le m {xs} {ys} p q s =
     let t : WriteSet → Bool = λ w. eqb (masterOf w.csn) m in
-    sorted-le (keep-sorted t p) (keep-sorted t q) (λ x k. let r = keep→ t xs k in →keep t (s x (r .0)) (r .1))
+    rising-le csnOf (rising-keep csnOf t p) (rising-keep csnOf t q) (λ x k. let r = keep→ t xs k in →keep t (s x (r .0)) (r .1))

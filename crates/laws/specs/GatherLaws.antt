@@ -10,11 +10,12 @@ use native.Mathlib.Decide.{ℕ-discrete}
 use borrow.Author.Tests.{ltb-true, leb-false, eqb-false, lt-ltb, lt-leb, eq-eqb, ne-eqb, not-true}
 use lib.ListN.{getD}
 use Rattle.rules.specs.Lists.{_or_}
-use Rattle.rules.specs.Sheet.{WriteSet, Sheet, noNotice, masters, setsOf, allows}
+use Rattle.rules.specs.Sheet.{WriteSet, csnOf, Sheet, noNotice, masters, setsOf, allows}
 use Rattle.rules.specs.Gathering.{Notice, Offer, aSet, aNotice, setIn, noticeIn, setsAmong, noticesAmong, clash, differ, distinct, noticeOf, sharedCsn, twoNotices, tooMany, overNotice, spoils, soundOf, spoiledSheet, holding, gathered, noticed, offersOf, withOffer, joined}
 use Rattle.laws.specs.Tests.{or→, or-left, or-right, or-false, same-tests}
 use Rattle.laws.specs.ListLaws.{Sub, any→, →any, flat→, →flat, upFrom→, →upFrom, getD-upFrom, sub-append, sub-append-right}
-use Rattle.laws.specs.Distinct.{Apart, apart, someTwo-sub, distinct→, →distinct, sorted, sorted-unique, sorted-le, setsOf-le}
+use Rattle.laws.specs.Distinct.{Apart, apart, someTwo-sub, distinct→, →distinct, sorted, setsOf-le}
+use Rattle.laws.specs.Rising.{rising-unique, rising-le}
 use Rattle.laws.specs.Notices.{noticeBy, notice-cap, notice-le, notice-in, notice-sub, notice-same, agree}
 
 pub set→ : (os : List Offer) {w : WriteSet} → List·Memᴰ w (setsAmong os) → List·Memᴰ (aSet w) os
@@ -67,7 +68,7 @@ notices-more s e = someTwo-sub differ (notices-sub s) e
 many-more : {xs ys : List Offer} → sharedCsn ys ≡ false → Sub xs ys → tooMany xs ≡ true → tooMany ys ≡ true
 unfolding tooMany
 many-more {xs} {ys} p s e =
-    lt-ltb _ _ (lt-of-lt-of-le (ltb-true _ _ e) (sorted-le (sorted (setsAmong xs)) (sorted (setsAmong ys)) (distinct-sub p s)))
+    lt-ltb _ _ (lt-of-lt-of-le (ltb-true _ _ e) (rising-le csnOf (sorted (setsAmong xs)) (sorted (setsAmong ys)) (distinct-sub p s)))
 
 allows-not : (a n : ℕ) → not (allows a n) ≡ true → (a ≡ noNotice → ⊥) × (a < n)
 unfolding allows
@@ -132,7 +133,7 @@ holding-same : (e r : ℕ) (xs ys : List Offer) → sharedCsn xs ≡ false → s
 unfolding holding
 holding-same e r xs ys p q s t =
     ap₂ (soundOf e r) (ap (λ (f : ℕ → ℕ). map f masters) (fun-ext (λ m. notice-same m (notices-sub s) (notices-sub t))))
-    (sorted-unique (sorted (setsAmong xs)) (sorted (setsAmong ys)) (distinct-sub q s) (distinct-sub p t))
+    (rising-unique csnOf (sorted (setsAmong xs)) (sorted (setsAmong ys)) (distinct-sub q s) (distinct-sub p t))
 
 -- THE SHEET DEPENDS ONLY ON WHICH OFFERS THERE ARE
 pub same-offers : (e r : ℕ) (xs ys : List Offer) → Sub xs ys → Sub ys xs → gathered e r xs ≡ gathered e r ys

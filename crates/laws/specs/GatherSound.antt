@@ -1,22 +1,23 @@
 -- What is gathered from fair offers is a sound sheet, so it comes back from its bytes.
 use Prim.Native.Nat.{ℕ, _<_, _≤_}
-use mathlib.Core.Path.{_≡_, refl, sym, _∙_, ap}
+use mathlib.Core.Path.{_≡_, refl, sym, _∙_, ap, subst}
 use mathlib.Core.Logic.{⊎-elim}
 use mathlib.Core.Bool.{Bool, true, false, not, false≢true}
-use mathlib.Core.List.{List, [], map, List·Memᴰ, List·Memᴰ·head}
+use mathlib.Core.List.{List, [], _∷_, map, List·Memᴰ, List·Memᴰ·eq-of-singleton}
 use mathlib.Core.Option.{some}
 use native.Mathlib.Omega.{arith}
-use borrow.Author.Tests.{ltb-false, lt-ltb, le-leb, eq-eqb}
+use borrow.Author.Tests.{ltb-false, le-leb, eq-eqb}
 use lib.ListN.{length, getD}
 use lib.Dec.{leb}
-use Rattle.rules.specs.Lists.{_and_, _or_, all, any, keep, count, flat, ascendFrom, ascend, upFrom}
+use Rattle.rules.specs.Lists.{_and_, _or_, all, any, keep, count, flat, ascend, upFrom}
 use Rattle.rules.specs.Numbers.{fits}
-use Rattle.rules.specs.Sheet.{WriteSet, noNotice, maxSets, masters, csnOf, setsOf, allows, inRoster, soundSet, soundNotice, soundSheet, bare, sheetBytes, readSheet}
+use Rattle.rules.specs.Sheet.{Sheet, noNotice, maxSets, masters, csnOf, setsOf, allows, inRoster, soundSet, soundNotice, soundSheet, bare, sheetBytes, readSheet}
 use Rattle.rules.specs.Gathering.{Offer, aSet, aNotice, setsAmong, noticesAmong, someTwo, distinct, noticeOf, sharedCsn, twoNotices, tooMany, overNotice, spoils, soundOf, emptySheet, spoiledSheet, holding, gathered}
-use Rattle.laws.specs.Tests.{both, or→, or-left, or-right}
+use Rattle.laws.specs.Tests.{left, right, both, or→, or-left, or-right}
 use Rattle.laws.specs.ListLaws.{→any, →all, upFrom→}
 use Rattle.laws.specs.SheetLaws.{read-written}
-use Rattle.laws.specs.Distinct.{Sorted, nil, cons, sorted, distinct→}
+use Rattle.laws.specs.Rising.{→ascend}
+use Rattle.laws.specs.Distinct.{sorted, distinct→}
 use Rattle.laws.specs.Notices.{notice-in}
 use Rattle.laws.specs.GatherLaws.{Proper, set→, notice→, notice-at, many-not, over-not, gathered-spoiled, gathered-holds}
 
@@ -36,19 +37,22 @@ pub record Head (e r : ℕ) : Type 0 where
   pub roster : leb 1 r ≡ true
   pub roster-fits : fits 2 r ≡ true
 
+-- that of a sound sheet
+pub head-of : (s : Sheet) → soundSheet s ≡ true → Head s.epoch s.roster
+unfolding soundSheet
+head-of s e = record {
+  epoch = left _ _ e;
+  epoch-fits = left _ _ (right _ _ e);
+  roster = left _ _ (right _ _ (right _ _ e));
+  roster-fits = left _ _ (right _ _ (right _ _ (right _ _ e)));
+}
+
+-- one fair offer
+pub one-fair : (e r : ℕ) (o : Offer) → FairOffer e r o → Fair e r (o ∷ [])
+one-fair e r o f x m = subst (FairOffer e r) (sym (List·Memᴰ·eq-of-singleton m)) f
+
 pub proper : (e r : ℕ) (os : List Offer) → Fair e r os → Proper os
 proper e r os f x k = let b = f (aNotice x) k in (b .0, omega arith)
-
-ascend-from : (n : ℕ) {ws : List WriteSet} → Sorted ws → ((v : WriteSet) → List·Memᴰ v ws → n < v.csn) → ascendFrom n (map csnOf ws) ≡ true
-unfolding ascendFrom
-ascend-from n nil h = refl
-ascend-from n (cons {w} f s) h = both (lt-ltb _ _ (h w (List·Memᴰ·head refl))) (ascend-from w.csn s f)
-
--- sets in csn order have ascending csns
-pub ascends : {ws : List WriteSet} → Sorted ws → ascend (map csnOf ws) ≡ true
-unfolding ascend
-ascends nil = refl
-ascends (cons {w} f s) = ascend-from w.csn s f
 
 pub spoiled-sound : (e r : ℕ) → Head e r → soundSheet (spoiledSheet e r) ≡ true
 unfolding soundSheet spoiledSheet bare all _or_ soundNotice upFrom ascend
@@ -93,7 +97,7 @@ held-sound e r os o f p =
     (both (unfold upFrom in refl)
     (both (→all _ masters (held-notices e r os f (over-not os p)))
     (both (held-few os (many-not os p))
-    (both (ascends (sorted (setsAmong os)))
+    (both (→ascend csnOf (sorted (setsAmong os)))
     (both (→all (soundSet e r) _ (λ w m. f (aSet w) (set→ os (distinct→ (setsAmong os) m))))
     (or-left _ _ refl)))))))))
 

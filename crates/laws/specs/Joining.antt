@@ -18,7 +18,7 @@ use Rattle.laws.specs.SheetLaws.{soundSheet→}
 use Rattle.laws.specs.Distinct.{someTwo-in}
 use Rattle.laws.specs.Notices.{noticeBy, notice-cap, notice-le, notice-in, notice-if, notice-else}
 use Rattle.laws.specs.GatherLaws.{→set, notice→, →notice}
-use Rattle.laws.specs.GatherSound.{Fair, Head, gathered-sound, spoiled-sound}
+use Rattle.laws.specs.GatherSound.{Fair, head-of, gathered-sound, spoiled-sound}
 
 -- what master m noticed in a sheet
 abbrev noted : Sheet → ℕ → ℕ
@@ -262,15 +262,6 @@ offers-fair s e (aSet w) k = all→ (soundSet s.epoch s.roster) (soundSheet→ s
 offers-fair s e (aNotice x) k =
     let r = offered→ s (→notice k) in
     ⊎-elim (λ c. absurd (r .2 (r .1 ∙ c))) (λ c. (r .0, omega arith, c .0)) (sound-notice s e x.master (r .0))
-
-head-of : (s : Sheet) → soundSheet s ≡ true → Head s.epoch s.roster
-unfolding soundSheet
-head-of s e = record {
-  epoch = left _ _ e;
-  epoch-fits = left _ _ (right _ _ e);
-  roster = left _ _ (right _ _ (right _ _ e));
-  roster-fits = left _ _ (right _ _ (right _ _ (right _ _ e)));
-}
 
 -- TWO SOUND SHEETS OF ONE EPOCH AND ROSTER ARE JOINED TO A SOUND ONE
 pub joined-sound : (a b : Sheet) → soundSheet a ≡ true → soundSheet b ≡ true → a.epoch ≡ b.epoch → a.roster ≡ b.roster → soundSheet (joined a b) ≡ true

@@ -3,40 +3,25 @@ use Prim.Native.Nat.{ℕ, zero, suc, _+_, _<_, _≤_}
 use mathlib.Core.Path.{_≡_, refl, sym, _∙_, ap}
 use mathlib.Core.Logic.{_⊎_, ⊎-elim}
 use mathlib.Core.Bool.{Bool, true, false, not, true≢false}
-use mathlib.Core.List.{List, [], _∷_, _++_, map, append-nil, List·Memᴰ, List·Memᴰ·head, List·Memᴰ·tail, List·Memᴰ·not-nil, List·Memᴰ·cases-cons, List·Memᴰ·append-cases, Memᴰ·append-left, Memᴰ·append-right}
+use mathlib.Core.List.{List, [], _∷_, _++_, append-nil, List·Memᴰ, List·Memᴰ·head, List·Memᴰ·tail, List·Memᴰ·not-nil, List·Memᴰ·cases-cons, List·Memᴰ·append-cases, Memᴰ·append-left, Memᴰ·append-right}
 use native.Mathlib.Omega.{arith}
-use borrow.Author.Tests.{ltb-true, eqb-true, eq-eqb, not-true}
+use borrow.Author.Tests.{eqb-true, eq-eqb, not-true}
 use lib.ListN.{length, drop}
 use Rattle.rules.specs.declared.row.Record.{Record}
-use Rattle.rules.specs.Lists.{any, ascendFrom, ascend}
-use Rattle.rules.specs.Sheet.{WriteSet, Sheet, csnOf, soundSheet}
+use Rattle.rules.specs.Lists.{any}
+use Rattle.rules.specs.Sheet.{WriteSet, csnOf}
 use Rattle.rules.specs.Gathering.{sameRecord, sameRecords, sameSet, someTwo, clash, putSet, distinct}
 use Rattle.laws.specs.Tests.{left, right, both, same-tests}
 use Rattle.laws.specs.ListLaws.{Sub, any→}
-use Rattle.laws.specs.Distinct.{Sorted, nil, cons, tri, less, more, equal, put-less, put-more, put-equal, distinct→, sameSet→, someTwo-in, someTwo-sub}
+use Rattle.laws.specs.Rising as rising
+use Rattle.laws.specs.Rising.{nil, cons}
+use Rattle.laws.specs.Distinct.{Sorted, tri, less, more, equal, put-less, put-more, put-equal, distinct→, sameSet→, someTwo-in, someTwo-sub}
 
--- ---- the sets of a sound sheet are in order
+-- ---- sets in order
 
 -- all sets of a list have a csn above n
 abbrev pub Above : ℕ → List WriteSet → Type 0
-Above n ws = (v : WriteSet) → List·Memᴰ v ws → n < v.csn
-
-above→ : (n : ℕ) (ws : List WriteSet) → ascendFrom n (map csnOf ws) ≡ true → Sorted ws × Above n ws
-unfolding ascendFrom
-above→ n [] e = (nil, λ v m. absurd (List·Memᴰ·not-nil m))
-above→ n (w ∷ ws) e =
-    let h : n < w.csn = ltb-true n w.csn (left _ _ e) in
-    let r = above→ w.csn ws (right _ _ e) in
-    (cons (r .1) (r .0), λ v m. ⊎-elim (λ q. let c = ap csnOf q in omega arith) (λ k. let c = r .1 v k in omega arith) (List·Memᴰ·cases-cons m))
-
-ascend→ : (ws : List WriteSet) → ascend (map csnOf ws) ≡ true → Sorted ws
-unfolding ascend
-ascend→ [] e = nil
-ascend→ (w ∷ ws) e = let r = above→ w.csn ws e in cons (r .1) (r .0)
-
-pub sheet-sorted : (s : Sheet) → soundSheet s ≡ true → Sorted s.sets
-unfolding soundSheet
-sheet-sorted s e = ascend→ s.sets (left _ _ (right _ _ (right _ _ (right _ _ (right _ _ (right _ _ (right _ _ (right _ _ e))))))))
+Above = rising.Above csnOf
 
 head-below : {w : WriteSet} {ws : List WriteSet} → Sorted (w ∷ ws) → Above w.csn ws
 head-below (cons f s) = f
@@ -209,7 +194,7 @@ fronted xs y ys = same-tests _ _ (someTwo-sub clash (to-front xs y ys)) (someTwo
 pub sorted-clash : {ws : List WriteSet} → Sorted ws → someTwo clash ws ≡ false
 unfolding someTwo any
 sorted-clash nil = refl
-sorted-clash (cons {w} {ws} f s) = passed-below w ws f ∙ sorted-clash s
+sorted-clash (cons {x = w} {xs = ws} f s) = passed-below w ws f ∙ sorted-clash s
 
 module _ {x y : WriteSet} {xs ys : List WriteSet} (p : Sorted (x ∷ xs)) (q : Sorted (y ∷ ys)) where
   -- THE SET WITH THE SMALLER CSN CLASHES WITH NONE

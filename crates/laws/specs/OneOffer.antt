@@ -2,7 +2,7 @@
 use Prim.Native.Nat.{ℕ}
 use mathlib.Core.Path.{_≡_, refl, sym, _∙_, ap}
 use mathlib.Core.Bool.{Bool, true, false}
-use mathlib.Core.List.{[], _∷_, _++_, List·Memᴰ·eq-of-singleton}
+use mathlib.Core.List.{[], _∷_, _++_}
 use native.Mathlib.Omega.{arith}
 use borrow.Author.Tests.{eq-eqb, le-leb}
 use lib.Dec.{leb}
@@ -12,13 +12,7 @@ use Rattle.rules.specs.Gathering.{Offer, aSet, aNotice, setIn, noticeIn, setsAm
 use Rattle.laws.specs.ListLaws.{sub-append-right}
 use Rattle.laws.specs.Merging.{sameSet-refl}
 use Rattle.laws.specs.GatherLaws.{gathered-holds, held→, →held, same-offers}
-use Rattle.laws.specs.GatherSound.{FairOffer, Fair, Head, proper, gathered-sound}
-
-pub one-fair : (e r : ℕ) (o : Offer) → FairOffer e r o → Fair e r (o ∷ [])
-one-fair e r o f x m = fair-as (List·Memᴰ·eq-of-singleton m) f
-  where
-    fair-as : {x : Offer} → x ≡ o → FairOffer e r o → FairOffer e r x
-    fair-as q g = rw (sym q) at g
+use Rattle.laws.specs.GatherSound.{FairOffer, Head, one-fair, proper, gathered-sound}
 
 or-true : (t : Bool) → t or true ≡ true
 unfolding _or_

@@ -1,13 +1,14 @@
 -- Lists whose numbers strictly ascend, over the number f that each element has: `Rising f xs` says that each one's number is below all
--- later ones'. Two such lists of the same elements are equal.
-use Prim.Native.Nat.{ℕ, _<_}
+-- later ones'. Two such lists of the same elements are equal, and one of fewer elements is no longer.
+use Prim.Native.Nat.{ℕ, _<_, _≤_}
 use mathlib.Core.Path.{_≡_, refl, sym, _∙_, ap, ap₂}
 use mathlib.Core.Logic.{⊎-elim}
 use mathlib.Core.Bool.{Bool, true, false}
-use mathlib.Core.List.{List, [], _∷_, _++_, map, List·Memᴰ, List·Memᴰ·head, List·Memᴰ·tail, List·Memᴰ·not-nil, List·Memᴰ·cases-cons, List·Memᴰ·append-cases}
+use mathlib.Core.List.{List, [], _∷_, _++_, map, List·Memᴰ, List·Memᴰ·head, List·Memᴰ·tail, List·Memᴰ·not-nil, List·Memᴰ·cases-cons, List·Memᴰ·append-cases, Memᴰ·cast}
 use native.Mathlib.Omega.{arith}
 use borrow.Author.Tests.{ltb-true, lt-ltb}
-use Rattle.rules.specs.Lists.{if_then_else_, keep, ascendFrom}
+use lib.ListN.{length}
+use Rattle.rules.specs.Lists.{if_then_else_, keep, ascendFrom, ascend}
 use Rattle.laws.specs.Tests.{left, right, both}
 use Rattle.laws.specs.ListLaws.{Sub, keep→}
 
@@ -38,6 +39,17 @@ module _ {A : Type 0} (f : A → ℕ) where
   unfolding ascendFrom
   →rising n nil h = refl
   →rising n (cons {x} g r) h = both (lt-ltb n (f x) (h x (List·Memᴰ·head refl))) (→rising (f x) r g)
+
+  -- the same where the first number may be 0
+  pub ascend→ : (xs : List A) → ascend (map f xs) ≡ true → Rising xs
+  unfolding ascend
+  ascend→ [] e = nil
+  ascend→ (x ∷ xs) e = let r = rising→ (f x) xs e in cons (r .1) (r .0)
+
+  pub →ascend : {xs : List A} → Rising xs → ascend (map f xs) ≡ true
+  unfolding ascend
+  →ascend nil = refl
+  →ascend (cons {x} g r) = →rising (f x) r g
 
   no-loop : (x y : A) → f x < f y → f y < f x → ⊥
   no-loop x y h k = omega arith
@@ -72,6 +84,21 @@ module _ {A : Type 0} (f : A → ℕ) where
       (λ k. ⊎-elim (λ e. sym e) (λ l. absurd (no-loop x y (g y l) (h x k))) (List·Memᴰ·cases-cons (t y (List·Memᴰ·head refl))))
       (List·Memᴰ·cases-cons (s x (List·Memᴰ·head refl))) in
       ap₂ _∷_ e (rising-unique p q (tails e g s) (tails (sym e) h t))
+
+  -- AND FEWER ELEMENTS MAKE NO LONGER LIST
+  pub rising-le : {xs ys : List A} → Rising xs → Rising ys → Sub xs ys → length xs ≤ length ys
+  rising-le nil q s = omega arith
+  rising-le (cons {x} g p) nil s = absurd (List·Memᴰ·not-nil (s x (List·Memᴰ·head refl)))
+  rising-le (cons {x} {xs} g p) (cons {x = y} {xs = ys} h q) s =
+      ⊎-elim
+      (λ e. let k = rising-le p q (tails e g s) in omega arith)
+      (λ k.
+      let t : Sub (x ∷ xs) ys =
+      λ z m. ⊎-elim (λ e. Memᴰ·cast e k)
+      (λ l. ⊎-elim (λ e. absurd (not-below (sym e) (lower (f y) x z (h x k) (g z l)))) (λ o. o) (List·Memᴰ·cases-cons (s z m)))
+      (List·Memᴰ·cases-cons m) in
+      let r = rising-le (cons g p) q t in omega arith)
+      (List·Memᴰ·cases-cons (s x (List·Memᴰ·head refl)))
 
   pub rising-keep : (p : A → Bool) {xs : List A} → Rising xs → Rising (keep p xs)
   unfolding keep

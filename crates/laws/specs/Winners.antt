@@ -1,16 +1,15 @@
 -- ONE WINNER: every key that a fit set of a sound sheet claims has exactly one winner, a claimant that precedes all others.
-use Prim.Native.Nat.{ℕ, _<_}
+use Prim.Native.Nat.{ℕ}
 use mathlib.Core.Path.{_≡_, refl, sym, _∙_, ap}
 use mathlib.Core.Logic.{_⊎_, inl, inr, ⊎-elim}
 use mathlib.Core.Bool.{Bool, true, false, false≢true}
-use mathlib.Core.List.{List, [], _∷_, map, List·Memᴰ, List·Memᴰ·head, List·Memᴰ·tail, List·Memᴰ·not-nil, List·Memᴰ·cases-cons}
+use mathlib.Core.List.{List, [], _∷_, List·Memᴰ, List·Memᴰ·head, List·Memᴰ·tail, List·Memᴰ·not-nil, List·Memᴰ·cases-cons}
 use mathlib.Core.Option.{Option, none, some}
-use native.Mathlib.Omega.{arith}
 use native.Mathlib.Decide.{ℕ-discrete}
-use borrow.Author.Tests.{ltb-true, eqb-true, eq-eqb}
+use borrow.Author.Tests.{eqb-true, eq-eqb}
 use lib.Dec.{eqb}
 use Rattle.rules.specs.declared.mark.Mark.{Mark}
-use Rattle.rules.specs.Lists.{_or_, first, ascendFrom, ascend}
+use Rattle.rules.specs.Lists.{_or_, first}
 use Rattle.rules.specs.Numbers.{precedes}
 use Rattle.rules.specs.Register.{Register}
 use Rattle.rules.specs.Sheet.{WriteSet, Sheet, csnOf, soundSheet}
@@ -18,43 +17,13 @@ use Rattle.rules.specs.Closing.{fit, names, claims, claimants, markIn, foremost
 use Rattle.laws.specs.Tests.{left, right, both, or→, or-left, or-right}
 use Rattle.laws.specs.ListLaws.{→all, all→, keep→, →keep, first→, first-none}
 use Rattle.laws.specs.Precedence.{transitive, asymmetric, total}
-use Rattle.laws.specs.Distinct.{Sorted, nil, cons, Apart}
+use Rattle.laws.specs.Rising.{rising-one}
+use Rattle.laws.specs.Distinct.{Apart, sheet-sorted}
 
 -- ---- the sets of a sound sheet are in order, so no two share a commit number
 
-above→ : (n : ℕ) (ws : List WriteSet) → ascendFrom n (map csnOf ws) ≡ true → Sorted ws × ((v : WriteSet) → List·Memᴰ v ws → n < v.csn)
-unfolding ascendFrom
-above→ n [] e = (nil, λ v m. absurd (List·Memᴰ·not-nil m))
-above→ n (w ∷ ws) e =
-    let h : n < w.csn = ltb-true n w.csn (left _ _ e) in
-    let r = above→ w.csn ws (right _ _ e) in
-    (cons (r .1) (r .0), λ v m. ⊎-elim (λ q. let c = ap csnOf q in omega arith) (λ k. let c = r .1 v k in omega arith) (List·Memᴰ·cases-cons m))
-
-ascend→ : (ws : List WriteSet) → ascend (map csnOf ws) ≡ true → Sorted ws
-unfolding ascend
-ascend→ [] e = nil
-ascend→ (w ∷ ws) e = let r = above→ w.csn ws e in cons (r .1) (r .0)
-
-pub sorted-apart : {ws : List WriteSet} → Sorted ws → Apart ws
-sorted-apart nil v w m k c = absurd (List·Memᴰ·not-nil m)
-sorted-apart (cons {w = x} f s) v w m k c =
-    ⊎-elim
-    (λ p. ⊎-elim (λ q. p ∙ sym q) (λ b. absurd (differ (ap csnOf p) (f w b))) (List·Memᴰ·cases-cons k))
-    (λ a. ⊎-elim (λ q. absurd (differ′ (ap csnOf q) (f v a))) (λ b. sorted-apart s v w a b c) (List·Memᴰ·cases-cons k))
-    (List·Memᴰ·cases-cons m)
-  where
-    differ : v.csn ≡ x.csn → x.csn < w.csn → ⊥
-    differ p h = omega arith
-
-    differ′ : w.csn ≡ x.csn → x.csn < v.csn → ⊥
-    differ′ p h = omega arith
-
-pub sheet-sorted : (s : Sheet) → soundSheet s ≡ true → Sorted s.sets
-unfolding soundSheet
-sheet-sorted s e = ascend→ s.sets (left _ _ (right _ _ (right _ _ (right _ _ (right _ _ (right _ _ (right _ _ (right _ _ e))))))))
-
 pub sheet-apart : (s : Sheet) → soundSheet s ≡ true → Apart s.sets
-sheet-apart s e = sorted-apart (sheet-sorted s e)
+sheet-apart s e v w m k c = rising-one csnOf (sheet-sorted s e) m k c
 
 -- ---- the one that precedes all others
 
