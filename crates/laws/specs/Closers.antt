@@ -2,7 +2,7 @@
 -- The paper's closing meets it, and three wrong versions do not, each on the examples that document 01 names.
 use Prim.Native.Nat.{ℕ, _+_, _≤_}
 use mathlib.Core.Path.{_≡_, refl, sym, _∙_, ap}
-use mathlib.Core.Bool.{Bool, true, false, not}
+use mathlib.Core.Bool.{true, false, not}
 use mathlib.Core.List.{List, [], _∷_}
 use mathlib.Core.Option.{Option, none, some}
 use native.Mathlib.Omega.{arith}
@@ -10,7 +10,7 @@ use borrow.Author.Tests.{eqb-true, eq-eqb, ne-eqb, ltb-false, le-ltb, not-false}
 use lib.ListN.{length}
 use lib.Dec.{ltb, eqb}
 use Rattle.words.specs.Words.{Bytes}
-use Rattle.rules.specs.Lists.{_or_, if_then_else_}
+use Rattle.rules.specs.Lists.{_or_}
 use Rattle.rules.specs.Register.{Register, maxRows, registerBytes, readRegister}
 use Rattle.rules.specs.Sheet.{Sheet, readSheet}
 use Rattle.rules.specs.Closing.{complete, nextRows, next}
@@ -19,6 +19,7 @@ use Rattle.laws.specs.Tests.{or-false}
 use Rattle.laws.specs.RegisterLaws as register
 use Rattle.laws.specs.SheetLaws as sheet
 use Rattle.laws.specs.NextSound.{next-read}
+use Rattle.laws.specs.NotRefused.{refused-not, done-same, passed}
 use Rattle.laws.specs.Examples.{Step, notice, sheetAfter, R, A}
 
 -- a closing, told by what it does with the bytes that it is given and the lengths of the buffers that it is lent
@@ -41,17 +42,6 @@ pub record Demand2 (c : Closer) : Type 0 where
   pub closes : (r t : Bytes) (n m : ℕ) (g : Register) (s : Sheet) → Closes r t n m g s → c r t n m ≡ done (closing g s)
   pub refuses : (r t : Bytes) (n m x : ℕ) → closeOutcome r t n m ≡ refused x → c r t n m ≡ refused x
 
-refused-not : (x : ℕ) (c : Closing) → refused x ≡ done c → ⊥
-refused-not x c p = let z : _≡_ {A = ℕ} 0 1 = cc in omega arith
-
-done-same : {a b : Closing} → done a ≡ done b → a ≡ b
-done-same p = cc
-
--- one refusal passed
-passed : (t : Bool) (x : ℕ) (o : Outcome Closing) (c : Closing) → (if t then refused x else o) ≡ done c → (t ≡ false) × (o ≡ done c)
-passed true x o c p = absurd (refused-not x c p)
-passed false x o c p = (refl, p)
-
 -- a closing that is not refused
 pub closes→ : (r t : Bytes) (n m : ℕ) (c : Closing) → closeOutcome r t n m ≡ done c → (g : Register) × (s : Sheet) × Closes r t n m g s × (c ≡ closing g s)
 unfolding closeOutcome closeSheet
@@ -59,8 +49,8 @@ closes→ r t n m c p = go (readRegister r) refl (readSheet t) refl p
   where
     go : (a : Option Register) → readRegister r ≡ a → (b : Option Sheet) → readSheet t ≡ b → closeSheet a b n m ≡ done c
         → (g : Register) × (s : Sheet) × Closes r t n m g s × (c ≡ closing g s)
-    go none e b f p = absurd (refused-not 1 c p)
-    go (some g) e none f p = absurd (refused-not 2 c p)
+    go none e b f p = absurd (refused-not p)
+    go (some g) e none f p = absurd (refused-not p)
     go (some g) e (some s) f p =
         let p₁ = passed (not (eqb s.epoch (g.snapshot + 1))) 4 _ c p in
         let p₂ = passed s.spoiled 6 _ c (p₁ .1) in

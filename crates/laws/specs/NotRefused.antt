@@ -18,20 +18,23 @@ use Rattle.laws.specs.Tests.{left, right}
 use Rattle.laws.specs.SheetLaws.{written-records}
 use Rattle.laws.specs.Trees.{andThen}
 
-refused-not : (n : ℕ) (b : Bytes) → refused n ≡ done b → ⊥
-refused-not n b p = let z : _≡_ {A = ℕ} 0 1 = cc in omega arith
+-- ---- of any outcome
 
-done-same : {a b : Bytes} → done a ≡ done b → a ≡ b
-done-same p = cc
+module _ {A : Type 0} where
+  pub refused-not : {n : ℕ} {a : A} → refused n ≡ done a → ⊥
+  refused-not p = let z : _≡_ {A = ℕ} 0 1 = cc in omega arith
 
--- one refusal passed
-passed : (t : Bool) (n : ℕ) (x : Outcome Bytes) (b : Bytes) → (if t then refused n else x) ≡ done b → (t ≡ false) × (x ≡ done b)
-passed true n x b p = absurd (refused-not n b p)
-passed false n x b p = (refl, p)
+  pub done-same : {a b : A} → done a ≡ done b → a ≡ b
+  done-same p = cc
+
+  -- one refusal passed
+  pub passed : (t : Bool) (n : ℕ) (o : Outcome A) (a : A) → (if t then refused n else o) ≡ done a → (t ≡ false) × (o ≡ done a)
+  passed true n o a p = absurd (refused-not p)
+  passed false n o a p = (refl, p)
 
 pub then→ : (o : Outcome Bytes) (f : Bytes → Outcome Bytes) (b : Bytes) → andThen o f ≡ done b → (a : Bytes) × (o ≡ done a) × (f a ≡ done b)
 unfolding andThen
-then→ (refused n) f b p = absurd (refused-not n b p)
+then→ (refused n) f b p = absurd (refused-not p)
 then→ (done a) f b p = (a, refl, p)
 
 not-zero : (n : ℕ) → eqb n 0 ≡ false → leb 1 n ≡ true
@@ -52,7 +55,7 @@ open→ e r room b p =
 pub offer→ : (s : Sheet) (o : Option Offer) (e m room : ℕ) (b : Bytes) → offerTo (some s) o e m room ≡ done b
     → (x : Offer) × (o ≡ some x) × (e ≡ s.epoch) × (inRoster s.roster m ≡ true) × (b ≡ sheetBytes (withOffer s x))
 unfolding offerTo
-offer→ s none e m room b p = absurd (refused-not 3 b p)
+offer→ s none e m room b p = absurd (refused-not p)
 offer→ s (some x) e m room b p =
     let p₁ = passed _ _ _ _ p in
     let p₂ = passed _ _ _ _ (p₁ .1) in
