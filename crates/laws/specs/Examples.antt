@@ -13,7 +13,7 @@ use Rattle.rules.specs.declared.answer.Reason.the-variants.{TooNew}
 use Rattle.rules.specs.Lists.{flat}
 use Rattle.rules.specs.Numbers.{markOf, untouched}
 use Rattle.rules.specs.Register.{Register, registerBytes}
-use Rattle.rules.specs.Sheet.{recordsBytes, sheetBytes}
+use Rattle.rules.specs.Sheet.{change, insert, delete, recordsBytes, sheetBytes}
 use Rattle.rules.specs.Gathering.{spoiledSheet}
 use Rattle.rules.specs.ReadCheck.{Finding, passes, fails}
 use Rattle.rules.specs.Refused.{Outcome, refused, done, Closing, sheetRoom, registerRoom, verdictRoom, verdictBytes, openOutcome, putOutcome, noticeOutcome, joinOutcome, closeOutcome, readsOutcome, runRefused}
@@ -98,14 +98,15 @@ row k v cen sen csn = record { key = k; value = v; mark = markOf cen sen csn }
 abbrev register : ℕ → List Row → Register
 register s rs = record { snapshot = s; rows = rs }
 
-abbrev pub change : ℕ → ℕ → Record
-change k v = record { kind = 1; key = k; value = v }
+-- records of the three kinds
+abbrev changing : ℕ → ℕ → Record
+changing k v = record { kind = change; key = k; value = v }
 
-abbrev insert : ℕ → ℕ → Record
-insert k v = record { kind = 2; key = k; value = v }
+abbrev inserting : ℕ → ℕ → Record
+inserting k v = record { kind = insert; key = k; value = v }
 
-abbrev delete : ℕ → Record
-delete k = record { kind = 3; key = k; value = 0 }
+abbrev deleting : ℕ → Record
+deleting k = record { kind = delete; key = k; value = 0 }
 
 abbrev read : ℕ → ℕ → Read
 read k csn = record { key = k; csn = csn }
@@ -116,32 +117,32 @@ R = register 0 (untouched 10 1 ∷ untouched 20 0 ∷ [])
 
 -- the sets that most examples use: 10 := 6 of master 3, and 10 := 2 of master 5
 abbrev six : Step
-six = put 3 1 (change 10 6 ∷ [])
+six = put 3 1 (changing 10 6 ∷ [])
 
 abbrev seven : Step
-seven = put 3 1 (change 10 7 ∷ [])
+seven = put 3 1 (changing 10 7 ∷ [])
 
 abbrev two : Step
-two = put 5 1 (change 10 2 ∷ [])
+two = put 5 1 (changing 10 2 ∷ [])
 
 -- one set of each master, and the notices that say so
 abbrev pub A : List Step
 A = six ∷ two ∷ notice 3 1 ∷ notice 5 1 ∷ []
 
 abbrev B : List Step
-B = put 3 1 (change 10 6 ∷ []) ∷ put 21 2 (change 10 2 ∷ []) ∷ notice 3 1 ∷ notice 5 1 ∷ []
+B = put 3 1 (changing 10 6 ∷ []) ∷ put 21 2 (changing 10 2 ∷ []) ∷ notice 3 1 ∷ notice 5 1 ∷ []
 
 abbrev C : List Step
-C = six ∷ put 5 1 (change 10 2 ∷ change 20 7 ∷ []) ∷ put 19 1 (change 20 8 ∷ []) ∷ notice 3 2 ∷ notice 5 1 ∷ []
+C = six ∷ put 5 1 (changing 10 2 ∷ changing 20 7 ∷ []) ∷ put 19 1 (changing 20 8 ∷ []) ∷ notice 3 2 ∷ notice 5 1 ∷ []
 
 abbrev D : List Step
-D = put 3 1 (change 10 6 ∷ change 30 4 ∷ []) ∷ two ∷ notice 3 1 ∷ notice 5 1 ∷ []
+D = put 3 1 (changing 10 6 ∷ changing 30 4 ∷ []) ∷ two ∷ notice 3 1 ∷ notice 5 1 ∷ []
 
 abbrev E : List Step
-E = put 3 1 (insert 30 6 ∷ []) ∷ put 5 1 (insert 30 2 ∷ []) ∷ notice 3 1 ∷ notice 5 1 ∷ []
+E = put 3 1 (inserting 30 6 ∷ []) ∷ put 5 1 (inserting 30 2 ∷ []) ∷ notice 3 1 ∷ notice 5 1 ∷ []
 
 abbrev F : List Step
-F = put 3 1 (delete 20 ∷ []) ∷ put 5 1 (change 20 2 ∷ []) ∷ notice 3 1 ∷ notice 5 1 ∷ []
+F = put 3 1 (deleting 20 ∷ []) ∷ put 5 1 (changing 20 2 ∷ []) ∷ notice 3 1 ∷ notice 5 1 ∷ []
 
 -- a register of snapshot 5 with a row of cen 5
 abbrev five : Register
@@ -204,9 +205,9 @@ table =
     ∷ answers (openOutcome 1 40 9239) 9
     ∷ answers (putOutcome [] 0 0 3 [] 0) 2
     ∷ answers (putOutcome (sheetBytes (spoiledSheet 1 40)) 2 3 4 [] 0) 3
-    ∷ answers (putOutcome (sheetBytes (spoiledSheet 1 40)) 2 1 4 (recordsBytes (change 10 6 ∷ [])) 0) 4
-    ∷ answers (putOutcome (sheetBytes (spoiledSheet 1 40)) 1 1 4 (recordsBytes (change 10 6 ∷ [])) 0) 5
-    ∷ answers (putOutcome (sheetBytes (spoiledSheet 1 40)) 1 1 3 (recordsBytes (change 10 6 ∷ [])) 0) 9
+    ∷ answers (putOutcome (sheetBytes (spoiledSheet 1 40)) 2 1 4 (recordsBytes (changing 10 6 ∷ [])) 0) 4
+    ∷ answers (putOutcome (sheetBytes (spoiledSheet 1 40)) 1 1 4 (recordsBytes (changing 10 6 ∷ [])) 0) 5
+    ∷ answers (putOutcome (sheetBytes (spoiledSheet 1 40)) 1 1 3 (recordsBytes (changing 10 6 ∷ [])) 0) 9
     ∷ answers (noticeOutcome (sheetBytes (spoiledSheet 1 40)) 2 4 65 0) 3
     ∷ answers (noticeOutcome (sheetBytes (spoiledSheet 1 40)) 2 4 0 0) 4
     ∷ answers (joinOutcome (sheetBytes (spoiledSheet 1 40)) (sheetBytes (spoiledSheet 2 41)) 0) 4
