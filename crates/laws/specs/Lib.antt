@@ -6,8 +6,8 @@ pub mod Precedence
 pub mod SheetLaws
 pub mod Examples
 pub mod RegisterLaws
-pub mod Distinct
 pub mod Rising
+pub mod Distinct
 pub mod Winners
 pub mod Commits
 pub mod Applied
@@ -27,3 +27,4 @@ pub mod Gatherers
 pub mod Closers
 pub mod OneOffer
 pub mod Meets
+pub mod FirstFailing

@@ -1,5 +1,5 @@
 -- A sheet comes back from its bytes, and the bytes from what was read: one encoding. The same of an offered set's records.
-use Prim.Native.Nat.{ℕ, _+_, _*_, _^_, _<_, _≤_}
+use Prim.Native.Nat.{ℕ, zero, suc, _+_, _*_, _^_, _<_, _≤_}
 use mathlib.Core.Path.{_≡_, refl, sym, _∙_, ap, ap₂}
 use mathlib.Core.Bool.{Bool, true, false}
 use mathlib.Core.List.{List, [], _∷_, _++_, append-assoc, append-nil}
@@ -13,7 +13,7 @@ use lib.Dec.{eqb}
 use Rattle.words.specs.Words.{Bytes, le, word, part}
 use Rattle.words.proofs.Laws.{word-drop, word-le}
 use Rattle.rules.specs.declared.row.Record.{Record}
-use Rattle.rules.specs.Lists.{all, flat, same, if_then_else_}
+use Rattle.rules.specs.Lists.{all, flat, same}
 use Rattle.rules.specs.Sheet.{WriteSet, Sheet, maxSets, maxRecords, soundValue, soundRecord, soundRecords, soundSet, soundSheet, recordBytes, recordsBytes, contentsFrom, bodies, stateByte, headBytes, sheetBytes, recordIn, recordsIn, setsIn, sheetIn, isSheet, readSheet, offeredRecords, areRecords, readRecords}
 use Rattle.rules.specs.Forms.{wellFormed, read}
 use Rattle.laws.specs.Tests.{left, right, both}
@@ -56,6 +56,12 @@ pub records-length : (rs : List Record) → length (recordsBytes rs) ≡ 16 * le
 unfolding recordsBytes flat
 records-length [] = refl
 records-length (r ∷ rs) = length-append (recordBytes r) (recordsBytes rs) ∙ omega (arith, record-length r, records-length rs)
+
+-- as many records are read as are asked for
+pub records-count : (n : ℕ) (b : Bytes) (at : ℕ) → length (recordsIn n b at) ≡ n
+unfolding recordsIn
+records-count zero b at = refl
+records-count (suc n) b at = ap suc (records-count n b (at + 16))
 
 -- the records that stand at a place are read there
 records-at : (rs : List Record) (b : Bytes) (at : ℕ) (rest : Bytes) → all soundRecord rs ≡ true → drop at b ≡ recordsBytes rs ++ rest → recordsIn (length rs) b at ≡ rs

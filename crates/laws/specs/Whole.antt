@@ -1,5 +1,5 @@
 -- WHOLE OR NOT AT ALL: after a commit every record of the set stands in the next register, and a key that no committed set names keeps
--- its row but for the mark, or stays absent.
+-- its row but for the mark, or stays absent. A row with a winner bears the winner's mark; all other rows stay.
 use Prim.Native.Nat.{ℕ}
 use mathlib.Core.Path.{_≡_, refl, sym, _∙_, ap}
 use mathlib.Core.Logic.{_⊎_, ⊎-elim}
@@ -11,11 +11,12 @@ use borrow.Author.Tests.{eqb-true, eq-eqb, ne-eqb}
 use lib.Dec.{eqb}
 use Rattle.rules.specs.declared.row.Row.{Row}
 use Rattle.rules.specs.declared.row.Record.{Record}
+use Rattle.rules.specs.Numbers.{fresh}
 use Rattle.rules.specs.Register.{Register, keyOf}
 use Rattle.rules.specs.Sheet.{WriteSet, Sheet, change, insert, delete, soundSheet}
-use Rattle.rules.specs.Closing.{present, fitRecord, names, commits, markAfter, applied, appliedTo, valueBy, isDeleted, insertedRow, nextRows}
+use Rattle.rules.specs.Closing.{present, fitRecord, names, markIn, winner, isSet, wins, commits, markBy, markAfter, applied, appliedTo, valueBy, isDeleted, insertedRow, nextRows}
 use Rattle.laws.specs.ListLaws.{any→, →any}
-use Rattle.laws.specs.Commits.{names-own}
+use Rattle.laws.specs.Commits.{names-own, names→, commits→}
 use Rattle.laws.specs.Applied.{applied→, →applied, applied-each, applied-fits, appliedTo-is, appliedTo-none}
 use Rattle.laws.specs.NextRows.{rowAfter→, →rowAfter, key-stays, next→, →next-old, →next-insert, insert-absent}
 
@@ -116,3 +117,27 @@ stays-absent g s k e u x m c =
     let a = applied→ g s (p .0) (p .1) in
     u (a .set) (a .in-sheet) (a .committed) (ap (names (a .set)) (sym c ∙ ap keyOf (p .3)) ∙ names-own (a .set) (p .0) (a .in-set)))
     (next→ g s x m)
+
+-- A ROW OF THE NEXT REGISTER THAT HAS A WINNER BEARS THE WINNER'S MARK, EVEN IF THAT SET LOST ELSEWHERE
+pub marked : (g : Register) (s : Sheet) (x : Row) (w : WriteSet) → List·Memᴰ x (nextRows g s) → winner g s x.key ≡ some w → x.mark ≡ markIn s w
+unfolding markAfter markBy insertedRow
+marked g s x w m e =
+    ⊎-elim
+    (λ p.
+    let a = rowAfter→ g s (applied g s) (p .0) x (p .2) .1 in
+    ap (λ (r : Row). r.mark) a ∙ ap (λ (k : ℕ). markAfter g s k (p .0 .mark)) (sym (ap keyOf a)) ∙ ap (markBy s (p .0 .mark)) e)
+    (λ p.
+    let a = p .3 in
+    ap (λ (r : Row). r.mark) a ∙ ap (λ (k : ℕ). markAfter g s k fresh) (sym (ap keyOf a)) ∙ ap (markBy s fresh) e)
+    (next→ g s x m)
+
+-- ALL OTHER ROWS STAY: a row whose key has no winner
+pub stays : (g : Register) (s : Sheet) (row : Row) → List·Memᴰ row g.rows → winner g s row.key ≡ none → List·Memᴰ row (nextRows g s)
+unfolding wins isSet markAfter markBy
+stays g s row m e = rw e at (not-at-all g s row m unnamed)
+  where
+    unnamed : Unnamed g s row.key
+    unnamed w i c n =
+        let r = names→ w row.key n in
+        let won : wins g s w row.key ≡ true = rw (r .2) at (commits→ g s w c (r .0) (r .1) .1) in
+        false≢true (sym (ap (isSet w) e) ∙ won)
