@@ -15,7 +15,7 @@ use Rattle.rules.specs.Forms.{wellFormed}
 use Rattle.rules.specs.Sheet.{noNotice, masters, setsOf, soundNotice, bare, soundSheet, contentsFrom, bodies, stateByte, headBytes, sheetBytes, setsIn, sheetIn, isSheet}
 use Rattle.laws.specs.Tests.{left, right, both, same-tests}
 use Rattle.laws.specs.FormLaws.{→fits, same→}
-use Rattle.forms.specs.SheetForm.{setCount, noNotices, stateOk, headOk, noticeOk, sheetOk}
+use Rattle.forms.specs.SheetForm.{setCount, noneNoticed, stateOk, headOk, noticeOk, sheetOk}
 use Rattle.forms.proofs.Written.{Octets, and-true, part-here, byte-here, itself-here, word-here}
 use Rattle.forms.proofs.SetsBy.{totalIn, firstsIn, setZeros, ordered, sets-count, csns-of, sets-of, contents-length, bodies-length, total-few, contents-here, bodies-here, sets-says}
 
@@ -109,7 +109,7 @@ module _ (b : Bytes) (o : Octets b) where
 
   -- WHAT A PROGRAM TESTS OF A SHEET
   pub is-sheet-by : isSheet b ≡ sheetOk b
-  unfolding isSheet wellFormed soundSheet sheetOk headOk stateOk noNotices bare sheetIn ordered
+  unfolding isSheet wellFormed soundSheet sheetOk headOk stateOk noneNoticed bare sheetIn ordered
   is-sheet-by = same-tests (isSheet b) (sheetOk b) to from
     where
       n : ℕ

@@ -17,7 +17,7 @@ use Rattle.rules.specs.Lists.{_and_, all, keep, count}
 use Rattle.rules.specs.Numbers.{masterOf}
 use Rattle.rules.specs.Sheet.{noNotice, maxSets, maxRecords, masters, inRoster, soundNotice, isSheet}
 use Rattle.laws.specs.Says.{Says, is-lt, is-le, is-eq, itself, retold, _also_, _or-else_, _so_}
-use Rattle.forms.specs.SheetForm.{countAt, entryOk, bodyOk, above, setOk, setsOk, csnsIn, setsBy, Counted, setCount, noNotices, stateOk, headOk, noticeOk, sheetOk}
+use Rattle.forms.specs.SheetForm.{countAt, entryOk, bodyOk, above, setOk, setsOk, csnsIn, setsBy, Counted, setCount, noneNoticed, stateOk, headOk, noticeOk, sheetOk}
 use Rattle.forms.proofs.Loops.{stops, goes}
 use Rattle.forms.proofs.Written.{octets}
 use Rattle.forms.proofs.SheetBy.{is-sheet-by}
@@ -132,7 +132,7 @@ sets-none first prev (suc n) b c at h = absurd (omega arith)
 
 -- ---- the head and the whole
 
-pub state-tests : (b : Bytes) → Says (stateOk b) ((getD b 6 0 ≤ 1) × (getD b 6 0 ≡ 1 → (setCount b ≡ 0) × (noNotices b ≡ true)))
+pub state-tests : (b : Bytes) → Says (stateOk b) ((getD b 6 0 ≤ 1) × (getD b 6 0 ≡ 1 → (setCount b ≡ 0) × (noneNoticed b ≡ true)))
 unfolding stateOk
 state-tests b = is-le _ _ also _so_ (is-eq _ _) (is-eq _ _ also itself _)
 

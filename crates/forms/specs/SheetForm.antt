@@ -79,12 +79,12 @@ abbrev pub setCount : Bytes → ℕ
 setCount b = getD b 7 0
 
 -- no master has a notice
-unfoldable pub noNotices : Bytes → Bool
-noNotices b = all (λ n. eqb n noNotice) (part b 8 16)
+unfoldable pub noneNoticed : Bytes → Bool
+noneNoticed b = all (λ n. eqb n noNotice) (part b 8 16)
 
 -- state 0 or 1, and at 1 no set and no notice
 unfoldable pub stateOk : Bytes → Bool
-stateOk b = leb (getD b 6 0) 1 and (not (eqb (getD b 6 0) 1) or eqb (setCount b) 0 and noNotices b)
+stateOk b = leb (getD b 6 0) 1 and (not (eqb (getD b 6 0) 1) or eqb (setCount b) 0 and noneNoticed b)
 
 -- an epoch, a roster, the state, and at most 64 sets; the notices are held against the sets
 unfoldable pub headOk : Bytes → Bool

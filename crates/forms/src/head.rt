@@ -6,7 +6,7 @@ ghost use Prim.Native.Nat.{_≤_, _<_};
 ghost use lib.ListN.{length};
 ghost use Rattle.words.specs.Words.{word};
 ghost use Rattle.rules.specs.Sheet.{inRoster};
-ghost use Rattle.forms.specs.SheetForm.{noNotices, stateOk, headOk};
+ghost use Rattle.forms.specs.SheetForm.{noneNoticed, stateOk, headOk};
 
 // Whether master m is in the roster.
 pub fn in_roster(b: &[u8], m: u32) -> bool
@@ -20,7 +20,7 @@ pub fn in_roster(b: &[u8], m: u32) -> bool
 // Whether no master has a notice.
 fn no_notices(b: &[u8]) -> bool
     requires { ⌜ 24 ≤ length (now b) ⌝ }
-    ensures { λ r. ⌜ r ≡ noNotices (now (b .entry)) ⌝ }
+    ensures { λ r. ⌜ r ≡ noneNoticed (now (b .entry)) ⌝ }
 {
     let mut at: usize = 8;
     while at < 24 {

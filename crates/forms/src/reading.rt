@@ -114,7 +114,7 @@ pub fn body(b: &[u8], i: usize) -> &[u8]
     &b[at..end]
 }
 
-// Of set i of one sheet and set j of another, the body of the one with the smaller csn; where one sheet has no such set, the other's.
+// Of set i of one sheet and set j of another, the body of the one with the smaller csn; at equal csns the second's.
 pub fn next_body<'a>(a: &'a [u8], i: usize, b: &'a [u8], j: usize) -> &'a [u8]
     requires { ⌜ (isSheet (now a) ≡ true) × (isSheet (now b) ≡ true) × (i < length (sheetIn (now a) .sets)) × (j < length (sheetIn (now b) .sets)) ⌝ }
     ensures { λ r. ⌜ now r ≡ recordsBytes (nextOf (setAt (sheetIn (now (a .entry))) i) (setAt (sheetIn (now (b .entry))) j) .records) ⌝ }

@@ -8,20 +8,20 @@ use lib.Dec.{eqb}
 use Rattle.words.specs.Words.{part}
 use Rattle.rules.specs.Lists.{all}
 use Rattle.rules.specs.Sheet.{noNotice}
-use Rattle.forms.specs.SheetForm.{noNotices}
+use Rattle.forms.specs.SheetForm.{noneNoticed}
 use Rattle.forms.proofs.Loops.{stops, goes}
 use Rattle.forms.proofs.SheetTests.{notices-more, notices-none}
 use Rattle.forms.proofs.head.no_notices.Statement.{statement}
 use Rattle.forms.proofs.head.no_notices.Tie as tie
 
 abbrev Inv-loop : tie.InvT-loop
-Inv-loop b at₀ at = (at ≤ 24) × (noNotices b ≡ all (λ n. eqb n noNotice) (part b at (24 - at)))
+Inv-loop b at₀ at = (at ≤ 24) × (noneNoticed b ≡ all (λ n. eqb n noNotice) (part b at (24 - at)))
 
 abbrev μ-loop : tie.MeasureT-loop
 μ-loop b at₀ at = 24 - at
 
 loop-holds : tie.Need-loop-holds Inv-loop μ-loop
-loop-holds c = (omega arith, unfold noNotices in refl)
+loop-holds c = (omega arith, unfold noneNoticed in refl)
 
 shared-slice-read-if1 : tie.Need-shared-slice-read-if1 Inv-loop μ-loop
 shared-slice-read-if1 c = search needs
