@@ -16,7 +16,7 @@ use Rattle.rules.specs.Sheet.{WriteSet, Sheet, noNotice, soundSet, soundSheet, 
 use Rattle.laws.specs.Tests.{left, right}
 use Rattle.laws.specs.FormLaws.{same→}
 use Rattle.laws.specs.Says.{each}
-use Rattle.laws.specs.SheetLaws.{SetSound, soundSet→, SheetSound, soundSheet→, contents-length, records-length}
+use Rattle.laws.specs.SheetLaws.{SetSound, soundSet→, SheetSound, soundSheet→, contents-length, records-length, records-count}
 use Rattle.forms.specs.SheetReadings.{noSet, setAt, recordAt, noticeAt, noRecord, total, entryPlace, bodyPlace}
 
 -- ---- what the test says
@@ -79,11 +79,6 @@ pub record Entry (w : WriteSet) (b : Bytes) (c : ℕ) : Type 0 where
   pub csn : w.csn ≡ word 8 b c
   pub sen : w.sen ≡ word 4 b (c + 8)
   pub count : length w.records ≡ word 2 b (c + 14)
-
-records-count : (n : ℕ) (b : Bytes) (at : ℕ) → length (recordsIn n b at) ≡ n
-unfolding recordsIn
-records-count zero b at = refl
-records-count (suc n) b at = ap suc (records-count n b (at + 16))
 
 same-entry : {w : WriteSet} (b : Bytes) (c d : ℕ) → c ≡ d → Entry w b c → Entry w b d
 same-entry b c d e x = rw e at x

@@ -23,8 +23,8 @@ use Rattle.rules.specs.Promises.{over}
 use Rattle.laws.specs.Tests.{both}
 use Rattle.laws.specs.FormLaws.{→fits}
 use Rattle.laws.specs.Says.{Says, is-le, itself, _also_}
-use Rattle.laws.specs.SheetLaws.{soundSheet→, sheet-decoded, sheet-is, sheet-read, sheet-unread, records-read, records-unread, written-records}
-use Rattle.laws.specs.GatherSound.{FairOffer, Head}
+use Rattle.laws.specs.SheetLaws.{sheet-decoded, sheet-is, sheet-read, sheet-unread, records-read, records-unread, written-records}
+use Rattle.laws.specs.GatherSound.{FairOffer, head-of}
 use Rattle.laws.specs.OneOffer.{one-sound, put-joins}
 use Rattle.forms.proofs.SheetPlaces.{sheet-sound}
 use Rattle.gather.specs.declared.offer.Admission.{Admission}
@@ -166,11 +166,6 @@ pub record Ready (s : Sheet) (o : Offer) (one : Bytes) (n : ℕ) : Type 0 where
   pub long : n ≤ length one
   pub is : isSheet (take n one) ≡ true
   pub value : sheetIn (take n one) ≡ holding s.epoch s.roster (o ∷ [])
-
-head-of : (s : Sheet) → soundSheet s ≡ true → Head s.epoch s.roster
-head-of s h =
-    let k = soundSheet→ s h in
-    record { epoch = le-leb _ _ (k .epoch-some); epoch-fits = →fits 4 _ (k .epoch); roster = le-leb _ _ (k .roster-some); roster-fits = →fits 2 _ (k .roster) }
 
 first-bytes : (bs before : Bytes) (n : ℕ) {after : Bytes} → after ≡ stored before 0 bs → n ≡ length bs → length bs ≤ length before → take n after ≡ bs
 first-bytes bs before n p q h =

@@ -1,5 +1,5 @@
 -- What opening and the sheets of one offer write, over plain values.
-use Prim.Native.Nat.{ℕ, zero, suc, _+_, _*_, _/_, _<_, _≤_}
+use Prim.Native.Nat.{ℕ, _+_, _*_, _/_, _<_, _≤_}
 use mathlib.Core.Path.{_≡_, refl, sym, _∙_, ap}
 use mathlib.Core.Bool.{true, false}
 use mathlib.Core.List.{List, [], _∷_, map, append-nil}
@@ -9,6 +9,7 @@ use borrow.Author.Tests.{eq-eqb, ne-eqb, lt-ltb, le-ltb, leb-true}
 use lib.ListN.{length, getD, set, getD-replicate, length-set}
 use lib.Seq.{ext-getD, getD-set-same, getD-set-other}
 use Rattle.words.specs.Words.{Bytes, stored}
+use Rattle.words.proofs.Laws.{nothing-stored}
 use Rattle.rules.specs.declared.answer.Answer.the-variants.{Wrote, Refused}
 use Rattle.rules.specs.declared.answer.Refusal.the-variants.{WrongEpoch, WrongRoster, BufferShort}
 use Rattle.rules.specs.Lists.{flat, upFrom}
@@ -19,7 +20,7 @@ use Rattle.rules.specs.Refused.{done, sheetRoom, openOutcome}
 use Rattle.rules.specs.Promises.{Promise}
 use Rattle.laws.specs.Tests.{left, right}
 use Rattle.laws.specs.FormLaws.{same→}
-use Rattle.laws.specs.SheetLaws.{records-length}
+use Rattle.laws.specs.SheetLaws.{records-length, records-count}
 use Rattle.laws.specs.GatherLaws.{notice-at}
 use Rattle.laws.specs.Meets.{refuses, writes}
 use Rattle.forms.specs.SheetReadings.{startBytes, entryBytes, total}
@@ -27,12 +28,9 @@ use Rattle.forms.proofs.SheetPlaces.{sheet-length}
 use Rattle.forms.proofs.SheetWritten.{sheet-stored, sheet-over}
 use Rattle.gather.specs.OneSheet.{Small, ofSet, ofNotice}
 
-nothing-stored : (l : Bytes) (at : ℕ) → l ≡ stored l at []
-nothing-stored l at = unfold stored in refl
-
 -- ---- opening
 
-empty-length : (e r : ℕ) → length (sheetBytes (emptySheet e r)) ≡ 24
+pub empty-length : (e r : ℕ) → length (sheetBytes (emptySheet e r)) ≡ 24
 empty-length e r = sheet-length (emptySheet e r) (unfold emptySheet soundOf in refl) ∙ (unfold emptySheet soundOf total in refl)
 
 empty-stored : (e r : ℕ) (l₀ : Bytes) {l₁ l₂ : Bytes} → l₁ ≡ stored l₀ 0 (startBytes e r false 0) → l₂ ≡ stored l₁ 8 noNotices → l₂ ≡ stored l₀ 0 (sheetBytes (emptySheet e r))
@@ -68,11 +66,6 @@ pub record Offered (b : Bytes) : Type 0 where
   pub whole : length b ≡ 16 * (length b / 16)
   pub some : 1 ≤ length b / 16
   pub few : length b / 16 ≤ 8
-
-records-count : (n : ℕ) (b : Bytes) (at : ℕ) → length (recordsIn n b at) ≡ n
-unfolding recordsIn
-records-count zero b at = refl
-records-count (suc n) b at = ap suc (records-count n b (at + 16))
 
 pub offered : (b : Bytes) → areRecords b ≡ true → Offered b
 unfolding areRecords wellFormed offeredRecords soundRecords

@@ -10,7 +10,7 @@ use native.Mathlib.Omega.{arith}
 use lib.ListN.{length, getD, take, drop, length-drop}
 use lib.Seq.{length-take-le, take-suc, getD-drop}
 use Rattle.words.specs.Words.{Bytes, stored}
-use Rattle.words.proofs.Laws.{then-stored, length-stored}
+use Rattle.words.proofs.Laws.{nothing-stored, then-stored, length-stored}
 use Rattle.rules.specs.Lists.{flat, upFrom}
 use Rattle.rules.specs.Sheet.{WriteSet, Sheet, masters, recordsBytes, contentsFrom, bodies, sheetBytes, isSheet, sheetIn, soundSet}
 use Rattle.rules.specs.Gathering.{distinct, noNotices, soundOf, spoiledSheet}
@@ -88,10 +88,6 @@ unfolding upFrom
 notices-length f = refl
 
 -- ---- one store more
-
-pub nothing-stored : (l : Bytes) (at : ℕ) → l ≡ stored l at []
-unfolding stored
-nothing-stored l at = refl
 
 pub one-more : (l₀ : Bytes) {l₁ l₂ : Bytes} (at k : ℕ) (xs ys zs : Bytes) → l₁ ≡ stored l₀ at xs → l₂ ≡ stored l₁ k ys → k ≡ at + length xs → zs ≡ xs ++ ys → l₂ ≡ stored l₀ at zs
 one-more l₀ at k xs ys zs p q e z = then-stored l₀ at k xs ys p q e ∙ ap (stored l₀ at) (sym z)

@@ -58,6 +58,11 @@ unfolding stored
 length-stored l at bs = length-sets l at bs
 
 -- bytes stored where the bytes before them end
+-- nothing stored changes nothing
+pub nothing-stored : (l : Bytes) (at : ℕ) → l ≡ stored l at []
+unfolding stored
+nothing-stored l at = refl
+
 pub stored-append : (l : Bytes) (at : ℕ) (xs ys : Bytes) → stored l at (xs ++ ys) ≡ stored (stored l at xs) (at + length xs) ys
 unfolding stored
 stored-append l at [] ys = rw add-zero

@@ -1,5 +1,6 @@
 -- After k turns the bodies of the first k sets are written.
-use Rattle.gather.proofs.Writing.{total-next, bodies-next, still-ahead, next-is, behind-next, count-is, fits-next, nothing-stored, one-more, as-long}
+use Rattle.words.proofs.Laws.{nothing-stored}
+use Rattle.gather.proofs.Writing.{total-next, bodies-next, still-ahead, next-is, behind-next, count-is, fits-next, one-more, as-long}
 use Rattle.forms.proofs.SheetPlaces.{bodies-length}
 use Rattle.laws.specs.SheetLaws.{records-length}
 use Rattle.gather.proofs.Walks.{start-at, start-behind, on}

@@ -1,5 +1,6 @@
 -- After k turns the entries of the first k sets are written.
-use Rattle.gather.proofs.Writing.{total-next, contents-next, still-ahead, next-is, behind-next, count-is, fits-next, entry-is, nothing-stored, one-more, as-long, take-few}
+use Rattle.words.proofs.Laws.{nothing-stored}
+use Rattle.gather.proofs.Writing.{total-next, contents-next, still-ahead, next-is, behind-next, count-is, fits-next, entry-is, one-more, as-long, take-few}
 use Rattle.laws.specs.SheetLaws.{contents-length}
 use Rattle.gather.proofs.Walks.{start-at, start-behind, on}
 use Rattle.gather.specs.Walk.{behind, nextAt, At}
