@@ -10,3 +10,4 @@ pub mod SetsBy
 pub mod SheetBy
 pub mod SheetTests
 pub mod StreamLaws
+pub mod VerdictPlaces

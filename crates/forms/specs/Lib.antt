@@ -2,3 +2,4 @@ pub mod SheetReadings
 pub mod RegisterForm
 pub mod SheetForm
 pub mod SheetLength
+pub mod VerdictForm

@@ -36,6 +36,7 @@ pub use sheet::is_sheet;
 pub use stream::contents_length;
 pub use stream::sheet_length;
 pub use verdict::put_verdict;
+pub use verdict::set_verdict;
 pub use verdict::verdicts_length;
 pub use writing::put_body;
 pub use writing::put_entry;

@@ -1,9 +1,8 @@
 -- One line more: of the rows, and of the sets with their verdicts.
-use Prim.Native.Nat.{ℕ, zero, suc, _+_, _*_, _<_, _≤_}
-use mathlib.Core.Path.{_≡_, refl, sym, ap, _∙_}
+use Prim.Native.Nat.{ℕ, zero, suc, _+_, _<_, _≤_}
+use mathlib.Core.Path.{_≡_, sym, ap, _∙_}
 use mathlib.Core.Bool.{true}
 use mathlib.Core.List.{List, [], _∷_, _++_, map, append-assoc, append-nil}
-use native.Mathlib.Nat.{add-zero, zero-add}
 use native.Mathlib.Numerals.{add-one}
 use native.Mathlib.Omega.{arith}
 use lib.ListN.{length, getD, take, length-map, List·getD-map}
@@ -18,7 +17,9 @@ use Rattle.rules.specs.Sheet.{Sheet, csnOf}
 use Rattle.laws.specs.RegisterLaws.{soundRegister→, register-sound}
 use Rattle.forms.specs.RegisterForm.{noRow, rowAt}
 use Rattle.forms.specs.SheetReadings.{noSet, setAt}
-use Rattle.report.specs.Report.{Put, snapshotLine, rowLine, setLine, setLines, verdictIn, verdictsIn}
+use Rattle.report.specs.Report.{Put, snapshotLine, rowLine, setLine, setLines}
+use Rattle.forms.specs.VerdictForm.{verdictsIn, verdictAt}
+use Rattle.forms.proofs.VerdictPlaces.{verdicts-count}
 use Rattle.report.proofs.PutLaws.{then-put}
 
 flat-more : {A : Type 0} (f : A → Bytes) (xs : List A) (i : ℕ) (d : A) → i < length xs → flat f (take (suc i) xs) ≡ flat f (take i xs) ++ f (getD xs i d)
@@ -43,37 +44,24 @@ lines-more (c ∷ cs) (v ∷ vs) (suc i) h k =
     ap (λ (l : Bytes). setLine c v ++ l) (lines-more cs vs i (omega arith) (omega arith))
     ∙ sym (append-assoc (setLine c v) (setLines (take i cs) (take i vs)) (setLine (getD cs i 0) (getD vs i Commit)))
 
-pub verdictsIn-length : (n : ℕ) (b : Bytes) (at : ℕ) → length (verdictsIn n b at) ≡ n
-unfolding verdictsIn
-verdictsIn-length zero b at = refl
-verdictsIn-length (suc n) b at = ap suc (verdictsIn-length n b (at + 5))
-
-verdictsIn-at : (n : ℕ) (b : Bytes) (at k : ℕ) (d : Verdict) → k < n → getD (verdictsIn n b at) k d ≡ verdictIn b (at + 5 * k)
-unfolding verdictsIn
-verdictsIn-at zero b at k d h = absurd (omega arith)
-verdictsIn-at (suc n) b at zero d h = ap (verdictIn b) (sym (add-zero at))
-verdictsIn-at (suc n) b at (suc k) d h =
-    let e : at + 5 + 5 * k ≡ at + 5 * suc k = omega arith in
-    verdictsIn-at n b (at + 5) k d (omega arith) ∙ ap (verdictIn b) e
-
 -- the text of the first i sets
 abbrev pub firstSets : Sheet → Bytes → ℕ → Bytes
 firstSets s b i = setLines (take i (map csnOf s.sets)) (take i (verdictsIn (length s.sets) b 0))
 
-pub set-more : (s : Sheet) (b : Bytes) (i : ℕ) {l₀ l₁ l₂ : Bytes} {at k r csn : ℕ} {v : Verdict} → i < length s.sets → csn ≡ setAt s i .csn → v ≡ verdictIn b (5 * i)
+pub set-more : (s : Sheet) (b : Bytes) (i : ℕ) {l₀ l₁ l₂ : Bytes} {at k r csn : ℕ} {v : Verdict} → i < length s.sets → csn ≡ setAt s i .csn → v ≡ verdictAt (verdictsIn (length s.sets) b 0) i
     → Put (firstSets s b i) l₀ at l₁ k → Put (setLine csn v) l₁ k l₂ r → Put (firstSets s b (i + 1)) l₀ at l₂ r
 unfolding setAt
 set-more s b i {csn = csn} {v} h e f p q =
     let n = length s.sets in
     let c : getD (map csnOf s.sets) i 0 ≡ csn = List·getD-map csnOf s.sets i noSet ∙ sym e in
-    let w : getD (verdictsIn n b 0) i Commit ≡ v = verdictsIn-at n b 0 i Commit h ∙ ap (verdictIn b) (zero-add (5 * i)) ∙ sym f in
-    let m = lines-more (map csnOf s.sets) (verdictsIn n b 0) i (simp length-map h) (simp verdictsIn-length h) in
+    let w : getD (verdictsIn n b 0) i Commit ≡ v = unfold verdictAt in sym f in
+    let m = lines-more (map csnOf s.sets) (verdictsIn n b 0) i (simp length-map h) (simp verdicts-count h) in
     rw (add-one i, m, c, w) (then-put p q)
 
 -- and of all of them
 pub sets-whole : (s : Sheet) (b : Bytes) (i : ℕ) → length s.sets ≤ i → firstSets s b i ≡ setLines (map csnOf s.sets) (verdictsIn (length s.sets) b 0)
 sets-whole s b i h =
-    rw (take-all i (map csnOf s.sets) (simp length-map h), take-all i (verdictsIn (length s.sets) b 0) (simp verdictsIn-length h))
+    rw (take-all i (map csnOf s.sets) (simp length-map h), take-all i (verdictsIn (length s.sets) b 0) (simp verdicts-count h))
 
 -- the head line, of numbers that are the register's
 pub head-put : {s n s′ n′ : ℕ} {l₀ l₁ : Bytes} {at r : ℕ} → s ≡ s′ → n ≡ n′ → Put (snapshotLine s n) l₀ at l₁ r → Put (snapshotLine s′ n′) l₀ at l₁ r

@@ -23,7 +23,7 @@ use Rattle.laws.specs.Tests.{left, right}
 use Rattle.laws.specs.FormLaws.{fits→}
 use Rattle.laws.specs.ListLaws.{all→, first→}
 use Rattle.laws.specs.Commits.{set-records}
-use Rattle.report.specs.Report.{verdictOf, verdictIn, verdictsIn}
+use Rattle.forms.specs.VerdictForm.{verdictOf, verdictIn, verdictsIn}
 
 -- a key of 32 bits
 abbrev pub Small : Verdict → Type 0

@@ -2,15 +2,16 @@
 use Prim.Native.Nat.{ℕ, zero, suc, _+_, _/_, _%_}
 use mathlib.Core.Path.{_≡_}
 use mathlib.Core.List.{List, [], _∷_, _++_}
-use lib.ListN.{length, getD}
-use lib.Dec.{ltb, eqb}
-use Rattle.words.specs.Words.{Bytes, word, stored, runWords}
+use lib.ListN.{length}
+use lib.Dec.{ltb}
+use Rattle.words.specs.Words.{Bytes, stored, runWords}
 use Rattle.rules.specs.declared.mark.Mark.{Mark}
 use Rattle.rules.specs.declared.row.Row.{Row}
 use Rattle.rules.specs.declared.answer.Verdict.{Verdict}
 use Rattle.rules.specs.declared.answer.Verdict.the-variants.{Commit, Lost, Unfit}
 use Rattle.rules.specs.Lists.{if_then_else_, flat, runLists}
 use Rattle.rules.specs.Register.{Register}
+unfoldable pub use Rattle.forms.specs.VerdictForm.{verdictsIn}
 
 -- the decimal digits of n in ASCII, the most significant first, and of a longer number the last k
 unfoldable pub digits : ℕ → ℕ → Bytes
@@ -78,19 +79,6 @@ report g csns vs = (snapshotLine g.snapshot (length g.rows) ++ setLines csns vs)
 unfoldable pub refusedText : ℕ → Bytes
 refusedText n = field (114 ∷ 101 ∷ 102 ∷ 117 ∷ 115 ∷ 101 ∷ 100 ∷ 32 ∷ []) n ++ lineEnd
 
--- a verdict from its code and key
-unfoldable pub verdictOf : ℕ → ℕ → Verdict
-verdictOf code key = if eqb code 1 then Commit else if eqb code 2 then Lost key else Unfit key
-
--- the verdict whose 5 bytes start at a place
-unfoldable pub verdictIn : Bytes → ℕ → Verdict
-verdictIn b at = verdictOf (getD b at 0) (word 4 b (at + 1))
-
--- n verdicts from a place on
-unfoldable pub verdictsIn : ℕ → Bytes → ℕ → List Verdict
-verdictsIn zero b at = []
-verdictsIn (suc n) b at = verdictIn b at ∷ verdictsIn n b (at + 5)
-
 -- of a writing at a place: it is one store of the text, and the place behind it is handed back
 pub record Put (text before : Bytes) (at : ℕ) (after : Bytes) (next : ℕ) : Type 0 where
   pub bytes : after ≡ stored before at text
@@ -98,5 +86,5 @@ pub record Put (text before : Bytes) (at : ℕ) (after : Bytes) (next : ℕ) : T
 
 -- opens all of these, for a proof by computation
 unfoldable pub runReport : Unit {0}
-unfolding runWords runLists digits decimal field snapshotLine verdictText setLine markText rowLine setLines report refusedText verdictOf verdictIn verdictsIn
+unfolding runWords runLists digits decimal field snapshotLine verdictText setLine markText rowLine setLines report refusedText
 runReport = tt

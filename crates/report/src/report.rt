@@ -6,9 +6,8 @@ use forms::row;
 use forms::row_count;
 use forms::set_count;
 use forms::set_csn;
+use forms::set_verdict;
 use forms::snapshot;
-use rules::Verdict;
-use words::get32;
 ghost use mathlib.Core.Path.{_≡_};
 ghost use mathlib.Core.Bool.{true};
 ghost use mathlib.Core.List.{map};
@@ -17,27 +16,7 @@ ghost use lib.ListN.{length};
 ghost use Rattle.rules.specs.Lists.{flat};
 ghost use Rattle.rules.specs.Register.{isRegister, registerIn};
 ghost use Rattle.rules.specs.Sheet.{isSheet, sheetIn, csnOf};
-ghost use Rattle.report.specs.Report.{Put, lineRoom, reportRoom, rowLine, setLines, verdictOf, verdictIn, verdictsIn, report};
-
-fn verdict_of(code: u8, key: u32) -> Verdict
-    ensures { λ r. ⌜ r ≡ verdictOf code key ⌝ }
-{
-    if code == 1 {
-        return Verdict::Commit;
-    }
-    if code == 2 {
-        return Verdict::Lost(key);
-    }
-    Verdict::Unfit(key)
-}
-
-// The verdict of set i.
-fn verdict(b: &[u8], i: usize) -> Verdict
-    requires { ⌜ 5 * i + 5 ≤ length (now b) ⌝ }
-    ensures { λ r. ⌜ r ≡ verdictIn (now (b .entry)) (5 * i) ⌝ }
-{
-    verdict_of(b[5 * i], get32(b, 5 * i + 1))
-}
+ghost use Rattle.report.specs.Report.{Put, lineRoom, reportRoom, rowLine, setLines, verdictsIn, report};
 
 // A line for each set.
 fn put_set_lines(sheet: &[u8], verdicts: &[u8], out: &mut [u8], at: usize) -> usize
@@ -48,7 +27,7 @@ fn put_set_lines(sheet: &[u8], verdicts: &[u8], out: &mut [u8], at: usize) -> us
     let mut end = at;
     let mut i: usize = 0;
     while i < n {
-        end = put_set_line(out, end, set_csn(sheet, i), verdict(verdicts, i));
+        end = put_set_line(out, end, set_csn(sheet, i), set_verdict(verdicts, i));
         i += 1;
     }
     end

@@ -1,9 +1,11 @@
 -- The code and the key behind it.
-use mathlib.Core.Path.{_∙_, ap}
-use Rattle.report.specs.Report.{verdictOf, verdictIn}
+use mathlib.Core.Path.{sym, _∙_, ap}
+use native.Mathlib.Nat.{zero-add}
+use Rattle.forms.specs.VerdictForm.{verdictOf, verdictIn}
+use Rattle.forms.proofs.VerdictPlaces.{verdict-place}
 use borrow.Author.Needs.{needs}
-use Rattle.report.proofs.report.verdict.Statement.{statement}
-use Rattle.report.proofs.report.verdict.Tie as tie
+use Rattle.forms.proofs.verdict.set_verdict.Statement.{statement}
+use Rattle.forms.proofs.verdict.set_verdict.Tie as tie
 
 mul-verdict-of : tie.Need-mul-verdict-of
 mul-verdict-of c = search needs
@@ -25,10 +27,11 @@ verdict-of-requires c κs = search needs
 
 returns : tie.Need-returns
 unfolding verdictIn
-returns c = c .verdict-of .ensures ∙ ap (verdictOf _) (c .before .get32 .ensures)
+returns c n h =
+    c .verdict-of .ensures ∙ ap (verdictOf _) (c .before .get32 .ensures) ∙ ap (verdictIn _) (sym (zero-add _)) ∙ sym (verdict-place n _ 0 _ h)
 
-pub verdict-spec : {M : Type 1} → statement M
-verdict-spec =
+pub set-verdict-spec : {M : Type 1} → statement M
+set-verdict-spec =
     tie.close
     (tie.spec
     mul-verdict-of

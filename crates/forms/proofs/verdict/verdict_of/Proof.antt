@@ -1,8 +1,8 @@
 -- A code other than 1 and 2 is unfit.
 use borrow.Author.Tests.{eq-eqb, ne-eqb}
-use Rattle.report.specs.Report.{verdictOf}
-use Rattle.report.proofs.report.verdict_of.Statement.{statement}
-use Rattle.report.proofs.report.verdict_of.Tie as tie
+use Rattle.forms.specs.VerdictForm.{verdictOf}
+use Rattle.forms.proofs.verdict.verdict_of.Statement.{statement}
+use Rattle.forms.proofs.verdict.verdict_of.Tie as tie
 
 returns : tie.Need-returns
 unfolding verdictOf

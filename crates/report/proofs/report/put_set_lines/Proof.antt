@@ -29,8 +29,8 @@ loop-holds c = (omega arith, refl, omega arith, put-nothing _ _)
 set-csn-requires : tie.Need-set-csn-requires Inv-loop μ-loop
 set-csn-requires c κs = search needs
 
-verdict-requires : tie.Need-verdict-requires Inv-loop μ-loop
-verdict-requires c κs = omega arith
+set-verdict-requires : tie.Need-set-verdict-requires Inv-loop μ-loop
+set-verdict-requires c κs = omega arith
 
 put-set-line-requires : tie.Need-put-set-line-requires Inv-loop μ-loop
 put-set-line-requires c κs = omega arith
@@ -47,7 +47,7 @@ loop-again c =
     let v = w .before in
     let q = v .before in
     let l = q .before .before .before in
-    (omega arith, omega arith, omega arith, set-more _ _ (l .loop .i) (omega arith) (q .set-csn .ensures) (v .verdict .ensures) (l .loop .inv .3) (w .put-set-line .ensures .0))
+    (omega arith, omega arith, omega arith, set-more _ _ (l .loop .i) (omega arith) (q .set-csn .ensures) (v .set-verdict .ensures _ (omega arith)) (l .loop .inv .3) (w .put-set-line .ensures .0))
 
 same-length : tie.Need-same-length Inv-loop μ-loop
 same-length c = omega arith
@@ -67,7 +67,7 @@ put-set-lines-spec =
     set-count-requires
     loop-holds
     set-csn-requires
-    verdict-requires
+    set-verdict-requires
     put-set-line-requires
     add-i
     loop-less

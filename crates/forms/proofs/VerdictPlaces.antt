@@ -1,0 +1,21 @@
+-- Where verdicts stand: as many as are asked for, five bytes each.
+use Prim.Native.Nat.{ℕ, zero, suc, _+_, _*_, _<_}
+use mathlib.Core.Path.{_≡_, refl, sym, _∙_, ap}
+use native.Mathlib.Nat.{add-zero}
+use native.Mathlib.Omega.{arith}
+use lib.ListN.{length}
+use Rattle.words.specs.Words.{Bytes}
+use Rattle.forms.specs.VerdictForm.{verdictIn, verdictsIn, verdictAt}
+
+pub verdicts-count : (n : ℕ) (b : Bytes) (at : ℕ) → length (verdictsIn n b at) ≡ n
+unfolding verdictsIn
+verdicts-count zero b at = refl
+verdicts-count (suc n) b at = ap suc (verdicts-count n b (at + 5))
+
+pub verdict-place : (n : ℕ) (b : Bytes) (at i : ℕ) → i < n → verdictAt (verdictsIn n b at) i ≡ verdictIn b (at + 5 * i)
+unfolding verdictsIn verdictAt
+verdict-place zero b at i h = absurd (omega arith)
+verdict-place (suc n) b at zero h = ap (verdictIn b) (sym (add-zero at))
+verdict-place (suc n) b at (suc i) h =
+    let e : at + 5 + 5 * i ≡ at + 5 * suc i = omega arith in
+    verdict-place n b (at + 5) i (omega arith) ∙ ap (verdictIn b) e
