@@ -1,41 +1,29 @@
 -- Closing writes no more than a register and 64 verdicts may have, so its lengths fit the C struct; and how its export keeps its promise.
-use Prim.Native.Nat.{ℕ, _+_, _*_, _≤_}
-use mathlib.Core.Path.{_≡_, refl, sym, _∙_, ap}
-use mathlib.Core.Bool.{Bool, true, false, not}
+use Prim.Native.Nat.{ℕ, _*_, _≤_}
+use mathlib.Core.Path.{_≡_, refl, sym, _∙_, ap, subst}
 use mathlib.Core.List.{List, [], _∷_, map}
-use mathlib.Core.Option.{Option, none, some}
 use native.Mathlib.Omega.{arith}
-use borrow.Author.Tests.{ltb-false}
 use lib.ListN.{length, length-append}
-use lib.Dec.{ltb, eqb}
-use Rattle.words.specs.Words.{Bytes, le}
+use Rattle.words.specs.Words.{Bytes}
 use Rattle.words.proofs.Laws.{le-length}
 use Rattle.rules.specs.declared.answer.Refusal.{Refusal}
 use Rattle.rules.specs.declared.answer.Verdict.{Verdict}
 use Rattle.rules.specs.declared.answer.Closed.{Closed}
 use Rattle.rules.specs.declared.answer.Closed.the-variants.{Wrote, Refused}
 use Rattle.rules.specs.Answers.{closedNumbers, refusalNumber, verdictKey}
-use Rattle.rules.specs.Lists.{_or_, if_then_else_, flat}
-use Rattle.rules.specs.Register.{Register, maxRows, registerBytes, readRegister}
-use Rattle.rules.specs.Sheet.{Sheet, WriteSet, readSheet}
-use Rattle.rules.specs.Closing.{complete, nextRows, next, verdict, verdicts}
-use Rattle.rules.specs.Refused.{Outcome, refused, done, Closing, registerRoom, verdictRoom, verdictBytes, closing, closeSheet, closeOutcome}
+use Rattle.rules.specs.Lists.{_or_, flat}
+use Rattle.rules.specs.Register.{Register, maxRows}
+use Rattle.rules.specs.Sheet.{Sheet, WriteSet}
+use Rattle.rules.specs.Closing.{nextRows, next, verdict, verdicts}
+use Rattle.rules.specs.Refused.{Outcome, refused, done, Closing, registerRoom, verdictRoom, verdictBytes, closing, closeOutcome}
 use Rattle.rules.specs.Promises.{toldClosing, ClosePromise}
 use Rattle.laws.specs.RegisterLaws.{register-length}
 use Rattle.laws.specs.SheetLaws.{soundSheet→, written-read}
+use Rattle.laws.specs.Closers.{closes→}
 use Rattle.castorpedal.specs.declared.answer.CClosed.{CClosed}
 use Rattle.castorpedal.specs.Exported.{WithinClosed, ToldClosed, KeptClose}
-use Rattle.castorpedal.proofs.Rooms.{refused-not}
 
 -- ---- what closing writes
-
-done-same : {c d : Closing} → done c ≡ done d → c ≡ d
-done-same p = cc
-
--- one refusal passed
-passed : (t : Bool) (n : ℕ) (x : Outcome Closing) (c : Closing) → (if t then refused n else x) ≡ done c → (t ≡ false) × (x ≡ done c)
-passed true n x c p = absurd (refused-not p)
-passed false n x c p = (refl, p)
 
 -- five bytes a verdict, one a set
 verdicts-length : (f : WriteSet → Verdict) (ws : List WriteSet) → length (flat verdictBytes (map f ws)) ≡ 5 * length ws
@@ -51,27 +39,12 @@ small : (g : Register) (s : Sheet) → length (nextRows g s) ≤ maxRows → len
 unfolding closing next verdicts
 small g s h k = (omega (arith, register-length (next g s)), omega (arith, verdicts-length (verdict g s) s.sets))
 
-close→ : (g : Register) (s : Sheet) (nextRoom room : ℕ) (c : Closing) → closeSheet (some g) (some s) nextRoom room ≡ done c → (length (nextRows g s) ≤ maxRows) × (closing g s ≡ c)
-unfolding closeSheet
-close→ g s nextRoom room c p =
-    let p₁ = passed (not (eqb s.epoch (g.snapshot + 1))) 4 _ c p in
-    let p₂ = passed s.spoiled 6 _ c (p₁ .1) in
-    let p₃ = passed (not (complete s)) 7 _ c (p₂ .1) in
-    let p₄ = passed (ltb maxRows (length (nextRows g s))) 8 _ c (p₃ .1) in
-    let p₅ = passed (ltb nextRoom registerRoom or ltb room verdictRoom) 9 _ c (p₄ .1) in
-    (ltb-false _ _ (p₄ .0), done-same (p₅ .1))
-
 pub close-fits : (register sheet : Bytes) (nextRoom room : ℕ) (c : Closing) → closeOutcome register sheet nextRoom room ≡ done c → Small c
-unfolding closeOutcome
-close-fits register sheet nextRoom room c p = go (readRegister register) (readSheet sheet) refl p
-  where
-    go : (x : Option Register) (y : Option Sheet) → readSheet sheet ≡ y → closeSheet x y nextRoom room ≡ done c → Small c
-    go none y q h = absurd (unfold closeSheet in refused-not h)
-    go (some g) none q h = absurd (unfold closeSheet in refused-not h)
-    go (some g) (some s) q h =
-        let p = close→ g s nextRoom room c h in
-        let w = small g s (p .0) (soundSheet→ s (written-read sheet s q .1) .few) in
-        rw (p .1) at w
+close-fits register sheet nextRoom room c p =
+    let q = closes→ register sheet nextRoom room c p in
+    let h = q .2 in
+    let few = soundSheet→ (q .1) (written-read sheet (q .1) (h .reads-sheet) .1) .few in
+    subst Small (sym (q .3)) (small (q .0) (q .1) (h .few) few)
 
 -- ---- how the export keeps its promise
 

@@ -5,7 +5,6 @@ use mathlib.Core.Bool.{true}
 use mathlib.Core.List.{[], _∷_}
 use mathlib.Core.Option.{Option, none, some}
 use native.Mathlib.Omega.{arith}
-use borrow.Author.Tests.{le-leb}
 use lib.ListN.{length}
 use lib.Dec.{leb}
 use Rattle.words.specs.Words.{Bytes}
@@ -15,18 +14,18 @@ use Rattle.rules.specs.declared.answer.Answer.the-variants.{Wrote, Refused}
 use Rattle.rules.specs.Answers.{answerNumbers, refusalNumber}
 use Rattle.rules.specs.Numbers.{masterOf}
 use Rattle.rules.specs.Sheet.{Sheet, inRoster, soundSet, soundSheet, sheetBytes, readSheet}
-use Rattle.rules.specs.Gathering.{Offer, emptySheet, holding, withOffer, joined, soundOf}
+use Rattle.rules.specs.Gathering.{Offer, holding, withOffer, joined, soundOf}
 use Rattle.rules.specs.Refused.{Outcome, refused, done, sheetRoom, offerTo, offeredSet, offeredNotice, openOutcome, putOutcome, noticeOutcome, joinSheets, joinOutcome}
 use Rattle.rules.specs.Promises.{told, Promise}
 use Rattle.laws.specs.Tests.{both}
 use Rattle.laws.specs.FormLaws.{→fits}
 use Rattle.laws.specs.SheetLaws.{soundSheet→, written-read}
-use Rattle.laws.specs.GatherSound.{FairOffer, Head}
+use Rattle.laws.specs.GatherSound.{FairOffer, head-of}
 use Rattle.laws.specs.Joining.{joined-sound}
 use Rattle.laws.specs.OneOffer.{one-sound, put-joins}
-use Rattle.laws.specs.NotRefused.{open→, offer→, set→, notice→, join→}
-use Rattle.forms.specs.SheetReadings.{total}
+use Rattle.laws.specs.NotRefused.{refused-not, open→, offer→, set→, notice→, join→}
 use Rattle.forms.proofs.SheetPlaces.{sheet-length, total-few}
+use Rattle.gather.proofs.OneLaws.{empty-length}
 use Rattle.castorpedal.specs.declared.answer.CAnswer.{CAnswer}
 use Rattle.castorpedal.specs.Exported.{Within, Told, Kept}
 
@@ -37,11 +36,6 @@ sheet-room s e =
     let k = soundSheet→ s e in
     omega (arith, sheet-length s (k .sixteen), total-few s.epoch s.roster s.sets (k .sets), k .few)
 
-head-of : (s : Sheet) → soundSheet s ≡ true → Head s.epoch s.roster
-head-of s h =
-    let k = soundSheet→ s h in
-    record { epoch = le-leb _ _ (k .epoch-some); epoch-fits = →fits 4 _ (k .epoch); roster = le-leb _ _ (k .roster-some); roster-fits = →fits 2 _ (k .roster) }
-
 -- a sound sheet with a fair offer more is sound
 with-sound : (s : Sheet) (o : Offer) → soundSheet s ≡ true → FairOffer s.epoch s.roster o → soundSheet (withOffer s o) ≡ true
 with-sound s o h f =
@@ -49,9 +43,6 @@ with-sound s o h f =
     sym (ap soundSheet (put-joins s s.roster o f)) ∙ joined-sound s (holding s.epoch s.roster (o ∷ [])) h one (unfold holding soundOf in refl) (unfold holding soundOf in refl)
 
 -- ---- so has every outcome of gathering
-
-pub refused-not : {A : Type 0} {n : ℕ} {x : A} → refused n ≡ done x → ⊥
-refused-not p = let z : _≡_ {A = ℕ} 0 1 = cc in omega arith
 
 fair-as : (e r : ℕ) {x y : Offer} → x ≡ y → FairOffer e r x → FairOffer e r y
 fair-as e r p f = rw p at f
@@ -64,9 +55,6 @@ pub open-fits : (e r room : ℕ) → e < 256 ^ 4 → r < 256 ^ 2 → Fits (openO
 open-fits e r room h k b p =
     let q = open→ e r room b p in
     omega (arith, ap length (q .2), empty-length e r)
-  where
-    empty-length : (e r : ℕ) → length (sheetBytes (emptySheet e r)) ≡ 24
-    empty-length e r = sheet-length (emptySheet e r) (unfold emptySheet soundOf in refl) ∙ (unfold emptySheet soundOf total in refl)
 
 -- an offer to a sheet, fair if it is taken
 offer-fits : (sheet : Bytes) (o : Option Offer) (e m room : ℕ) → ((s : Sheet) (x : Offer) → o ≡ some x → e ≡ s.epoch → inRoster s.roster m ≡ true → FairOffer s.epoch s.roster x)
