@@ -42,6 +42,10 @@ entryPlace i = 24 + 16 * i
 unfoldable pub bodyPlace : Sheet → ℕ → ℕ
 bodyPlace s i = 24 + 16 * length s.sets + 16 * total (take i s.sets)
 
+-- how long a sheet of n sets is that have k records together
+abbrev pub sheetLength : ℕ → ℕ → ℕ
+sheetLength n k = 24 + 16 * n + 16 * k
+
 -- of two sets the one with the smaller csn
 unfoldable pub nextOf : WriteSet → WriteSet → WriteSet
 nextOf v w = if ltb v.csn w.csn then v else w

@@ -1,4 +1,4 @@
-// The forms of document 01: registers and sheets are examined, read and written here, and nowhere else is an offset computed.
+// The forms of document 01: registers and sheets are examined, read and written here, and nowhere else is an offset or a length computed.
 mod contents;
 mod head;
 mod reading;
@@ -23,6 +23,7 @@ pub use reading::set_count;
 pub use reading::set_csn;
 pub use reading::set_sen;
 pub use records::are_records;
+pub use records::offered_count;
 pub use register::is_register;
 pub use register::length_of;
 pub use register::put_register_head;
@@ -38,6 +39,7 @@ pub use stream::sheet_length;
 pub use verdict::put_verdict;
 pub use verdict::set_verdict;
 pub use verdict::verdicts_length;
+pub use writing::length_with;
 pub use writing::put_body;
 pub use writing::put_entry;
 pub use writing::put_no_notices;

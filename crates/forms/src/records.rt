@@ -4,7 +4,7 @@ use words::get64;
 ghost use mathlib.Core.Path.{_≡_};
 ghost use Prim.Native.Nat.{_+_, _*_, _≤_};
 ghost use lib.ListN.{length};
-ghost use Rattle.rules.specs.Sheet.{areRecords};
+ghost use Rattle.rules.specs.Sheet.{areRecords, offeredRecords};
 ghost use Rattle.forms.specs.SheetForm.{recordOk, bodyOk};
 
 // Whether the record at a place is in order; prev is the key before it in its set, or 0.
@@ -77,4 +77,11 @@ pub fn are_records(b: &[u8]) -> bool
         return false;
     }
     true
+}
+
+// How many records an offered set has.
+pub fn offered_count(b: &[u8]) -> usize
+    ensures { λ r. ⌜ r ≡ length (offeredRecords (now (b .entry))) ⌝ }
+{
+    b.len() / 16
 }

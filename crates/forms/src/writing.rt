@@ -10,7 +10,7 @@ ghost use lib.ListN.{length};
 ghost use Rattle.words.specs.Words.{stored};
 ghost use Rattle.rules.specs.Sheet.{stateByte};
 ghost use Rattle.rules.specs.Gathering.{noNotices};
-ghost use Rattle.forms.specs.SheetReadings.{entryPlace, startBytes, entryBytes};
+ghost use Rattle.forms.specs.SheetReadings.{entryPlace, sheetLength, startBytes, entryBytes};
 
 // The state byte: 0 sound, 1 spoiled.
 fn state_byte(spoiled: bool) -> u8
@@ -73,4 +73,12 @@ pub fn put_body(out: &mut [u8], n: usize, first: usize, body: &[u8])
     ensures { λ _. ⌜ now (out .exit) ≡ stored (now (out .entry)) (24 + 16 * n + 16 * first) (now (body .entry)) ⌝ }
 {
     copy(body, 0, body.len(), out, 24 + 16 * n + 16 * first);
+}
+
+// The length of a sheet of n sets that have so many records together.
+pub fn length_with(n: usize, records: usize) -> usize
+    requires { ⌜ (n ≤ 64) × (records ≤ 512) ⌝ }
+    ensures { λ r. ⌜ r ≡ sheetLength n records ⌝ }
+{
+    24 + 16 * n + 16 * records
 }

@@ -30,16 +30,16 @@ use Rattle.forms.proofs.SheetPlaces.{sheet-sound}
 use Rattle.gather.specs.declared.offer.Admission.{Admission}
 use Rattle.gather.specs.declared.offer.Admission.the-variants as admission
 use Rattle.gather.specs.OneSheet.{Small, Written, setOf, noticeBy}
-use Rattle.gather.specs.Offers.{setOk, noticeOk, admissionOf, Grant}
+use Rattle.gather.specs.Offers.{goodSet, goodNotice, admissionOf, Grant}
 
 -- ---- the tests
 
-pub set-says : (e sen : ℕ) (b : Bytes) → Says (setOk e sen b) ((1 ≤ e) × ((sen ≤ e) × (areRecords b ≡ true)))
-unfolding setOk
+pub set-says : (e sen : ℕ) (b : Bytes) → Says (goodSet e sen b) ((1 ≤ e) × ((sen ≤ e) × (areRecords b ≡ true)))
+unfolding goodSet
 set-says e sen b = is-le 1 e also is-le sen e also itself (areRecords b)
 
-pub notice-says : (e m n : ℕ) → Says (noticeOk e m n) ((1 ≤ e) × ((m ≤ 15) × (n ≤ maxSets)))
-unfolding noticeOk
+pub notice-says : (e m n : ℕ) → Says (goodNotice e m n) ((1 ≤ e) × ((m ≤ 15) × (n ≤ maxSets)))
+unfolding goodNotice
 notice-says e m n = is-le 1 e also is-le m 15 also is-le n maxSets
 
 -- ---- admission
@@ -104,14 +104,14 @@ grant s e m room p = go (eqb e s.epoch) refl (inRoster s.roster m) refl (ltb roo
 
 -- ---- the offers
 
-pub good-set : (e sen csn : ℕ) (b : Bytes) → setOk e sen b ≡ true → offeredSet e sen csn b ≡ some (aSet (setOf sen csn b))
+pub good-set : (e sen csn : ℕ) (b : Bytes) → goodSet e sen b ≡ true → offeredSet e sen csn b ≡ some (aSet (setOf sen csn b))
 unfolding offeredSet setWith
 good-set e sen csn b h =
     let f = set-says e sen b .told h in
     simp (records-read b (f .1 .1), both (le-leb 1 e (f .0)) (le-leb sen e (f .1 .0)))
 
-pub bad-set : (e sen csn : ℕ) (b : Bytes) → setOk e sen b ≡ false → offeredSet e sen csn b ≡ none
-unfolding offeredSet setOk _and_
+pub bad-set : (e sen csn : ℕ) (b : Bytes) → goodSet e sen b ≡ false → offeredSet e sen csn b ≡ none
+unfolding offeredSet goodSet _and_
 bad-set e sen csn b h = go (areRecords b) refl (leb 1 e) refl (leb sen e) refl h
   where
     go : (a : Bool) → areRecords b ≡ a → (p : Bool) → leb 1 e ≡ p → (q : Bool) → leb sen e ≡ q → (p and q and a) ≡ false → setWith e sen csn (readRecords b) ≡ none
@@ -120,12 +120,12 @@ bad-set e sen csn b h = go (areRecords b) refl (leb 1 e) refl (leb sen e) refl h
     go true x true y false z k = unfold setWith _and_ in simp (records-read b x, y, z)
     go true x true y true z k = absurd (false≢true (sym k ∙ (unfold _and_ in refl)))
 
-pub good-notice : (e m n : ℕ) → noticeOk e m n ≡ true → offeredNotice e m n ≡ some (aNotice (noticeBy m n))
-unfolding offeredNotice noticeOk
+pub good-notice : (e m n : ℕ) → goodNotice e m n ≡ true → offeredNotice e m n ≡ some (aNotice (noticeBy m n))
+unfolding offeredNotice goodNotice
 good-notice e m n h = simp h
 
-pub bad-notice : (e m n : ℕ) → noticeOk e m n ≡ false → offeredNotice e m n ≡ none
-unfolding offeredNotice noticeOk
+pub bad-notice : (e m n : ℕ) → goodNotice e m n ≡ false → offeredNotice e m n ≡ none
+unfolding offeredNotice goodNotice
 bad-notice e m n h = simp h
 
 -- ---- the refusals, and what is written
@@ -135,11 +135,11 @@ module _ (b : Bytes) (e sen csn : ℕ) (rs : Bytes) (room : ℕ) where
   unfolding putOutcome offerTo
   put-2 h = ap (λ (s : Option Sheet). offerTo s (offeredSet e sen csn rs) e (masterOf csn) room) (sheet-unread b h)
 
-  pub put-3 : isSheet b ≡ true → setOk e sen rs ≡ false → putOutcome b e sen csn rs room ≡ refused 3
+  pub put-3 : isSheet b ≡ true → goodSet e sen rs ≡ false → putOutcome b e sen csn rs room ≡ refused 3
   unfolding putOutcome offerTo
   put-3 h k = ap₂ (λ (s : Option Sheet) (o : Option Offer). offerTo s o e (masterOf csn) room) (sheet-read b h) (bad-set e sen csn rs k)
 
-  pub put-to : isSheet b ≡ true → setOk e sen rs ≡ true
+  pub put-to : isSheet b ≡ true → goodSet e sen rs ≡ true
       → putOutcome b e sen csn rs room ≡ offerTo (some (sheetIn b)) (some (aSet (setOf sen csn rs))) e (masterOf csn) room
   unfolding putOutcome
   put-to h k = ap₂ (λ (s : Option Sheet) (o : Option Offer). offerTo s o e (masterOf csn) room) (sheet-read b h) (good-set e sen csn rs k)
@@ -149,11 +149,11 @@ module _ (b : Bytes) (e m n room : ℕ) where
   unfolding noticeOutcome offerTo
   notice-2 h = ap (λ (s : Option Sheet). offerTo s (offeredNotice e m n) e m room) (sheet-unread b h)
 
-  pub notice-3 : isSheet b ≡ true → noticeOk e m n ≡ false → noticeOutcome b e m n room ≡ refused 3
+  pub notice-3 : isSheet b ≡ true → goodNotice e m n ≡ false → noticeOutcome b e m n room ≡ refused 3
   unfolding noticeOutcome offerTo
   notice-3 h k = ap₂ (λ (s : Option Sheet) (o : Option Offer). offerTo s o e m room) (sheet-read b h) (bad-notice e m n k)
 
-  pub notice-to : isSheet b ≡ true → noticeOk e m n ≡ true
+  pub notice-to : isSheet b ≡ true → goodNotice e m n ≡ true
       → noticeOutcome b e m n room ≡ offerTo (some (sheetIn b)) (some (aNotice (noticeBy m n))) e m room
   unfolding noticeOutcome
   notice-to h k = ap₂ (λ (s : Option Sheet) (o : Option Offer). offerTo s o e m room) (sheet-read b h) (good-notice e m n k)
@@ -196,7 +196,7 @@ unfolding holding soundOf
 same-roster s o one n r = sym (ap (λ (x : Sheet). x .roster) (r .value))
 
 -- a well-formed set of a master in the roster is fair, and so is a notice
-pub fair-set : (s : Sheet) (e sen csn room : ℕ) (b : Bytes) → setOk e sen b ≡ true → Grant s e (masterOf csn) room → csn < 256 ^ 8
+pub fair-set : (s : Sheet) (e sen csn room : ℕ) (b : Bytes) → goodSet e sen b ≡ true → Grant s e (masterOf csn) room → csn < 256 ^ 8
     → FairOffer s.epoch s.roster (aSet (setOf sen csn b))
 unfolding soundSet
 fair-set s e sen csn room b h g k =
@@ -204,7 +204,7 @@ fair-set s e sen csn room b h g k =
     let low : sen ≤ s.epoch = omega (arith, f .1 .0, g .same) in
     both (→fits 8 csn k) (both (le-leb sen s.epoch low) (both (g .roster) (written-records b (offeredRecords b) (records-read b (f .1 .1)) .1)))
 
-pub fair-notice : (s : Sheet) (e m n room : ℕ) → noticeOk e m n ≡ true → Grant s e m room
+pub fair-notice : (s : Sheet) (e m n room : ℕ) → goodNotice e m n ≡ true → Grant s e m room
     → FairOffer s.epoch s.roster (aNotice (noticeBy m n))
 fair-notice s e m n room h g = let f = notice-says e m n .told h in (omega (arith, f .1 .0), f .1 .1, g .roster)
 

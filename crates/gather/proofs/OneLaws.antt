@@ -1,5 +1,5 @@
 -- What opening and the sheets of one offer write, over plain values.
-use Prim.Native.Nat.{ℕ, _+_, _*_, _/_, _<_, _≤_}
+use Prim.Native.Nat.{ℕ, _+_, _*_, _<_, _≤_}
 use mathlib.Core.Path.{_≡_, refl, sym, _∙_, ap}
 use mathlib.Core.Bool.{true, false}
 use mathlib.Core.List.{List, [], _∷_, map, append-nil}
@@ -14,16 +14,16 @@ use Rattle.rules.specs.declared.answer.Answer.the-variants.{Wrote, Refused}
 use Rattle.rules.specs.declared.answer.Refusal.the-variants.{WrongEpoch, WrongRoster, BufferShort}
 use Rattle.rules.specs.Lists.{flat, upFrom}
 use Rattle.rules.specs.Forms.{wellFormed}
-use Rattle.rules.specs.Sheet.{WriteSet, Sheet, noNotice, maxRecords, masters, soundRecords, recordsBytes, contentsFrom, bodies, sheetBytes, recordsIn, offeredRecords, areRecords}
+use Rattle.rules.specs.Sheet.{WriteSet, Sheet, noNotice, maxRecords, masters, soundRecords, recordsBytes, contentsFrom, bodies, sheetBytes, offeredRecords, areRecords}
 use Rattle.rules.specs.Gathering.{aSet, aNotice, setIn, noticeIn, setsAmong, noticesAmong, putSet, distinct, noticeOf, noNotices, soundOf, emptySheet, holding}
 use Rattle.rules.specs.Refused.{done, sheetRoom, openOutcome}
 use Rattle.rules.specs.Promises.{Promise}
 use Rattle.laws.specs.Tests.{left, right}
 use Rattle.laws.specs.FormLaws.{same→}
-use Rattle.laws.specs.SheetLaws.{records-length, records-count}
+use Rattle.laws.specs.SheetLaws.{records-length}
 use Rattle.laws.specs.GatherLaws.{notice-at}
 use Rattle.laws.specs.Meets.{refuses, writes}
-use Rattle.forms.specs.SheetReadings.{startBytes, entryBytes, total}
+use Rattle.forms.specs.SheetReadings.{sheetLength, startBytes, entryBytes, total}
 use Rattle.forms.proofs.SheetPlaces.{sheet-length}
 use Rattle.forms.proofs.SheetWritten.{sheet-stored, sheet-over}
 use Rattle.gather.specs.OneSheet.{Small, ofSet, ofNotice}
@@ -62,27 +62,15 @@ no-room e r l h k m = refuses _ BufferShort l (simp (ne-eqb e 0 h, ne-eqb r 0 k,
 -- what an offered set's record bytes are
 pub record Offered (b : Bytes) : Type 0 where
   pub exact : recordsBytes (offeredRecords b) ≡ b
-  pub count : length (offeredRecords b) ≡ length b / 16
-  pub whole : length b ≡ 16 * (length b / 16)
-  pub some : 1 ≤ length b / 16
-  pub few : length b / 16 ≤ 8
+  pub whole : length b ≡ 16 * length (offeredRecords b)
+  pub few : length (offeredRecords b) ≤ maxRecords
 
 pub offered : (b : Bytes) → areRecords b ≡ true → Offered b
-unfolding areRecords wellFormed offeredRecords soundRecords
+unfolding areRecords wellFormed soundRecords
 offered b e =
-    let rs = recordsIn (length b / 16) b 0 in
+    let rs = offeredRecords b in
     let x : recordsBytes rs ≡ b = same→ _ _ (right _ _ e) in
-    let n : length rs ≡ length b / 16 = records-count (length b / 16) b 0 in
-    let s = left _ _ e in
-    let low : 1 ≤ length rs = leb-true 1 (length rs) (left _ _ s) in
-    let high : length rs ≤ maxRecords = leb-true (length rs) maxRecords (left _ _ (right _ _ s)) in
-    record {
-      exact = x;
-      count = n;
-      whole = sym (ap length x) ∙ records-length rs ∙ ap (λ (k : ℕ). 16 * k) n;
-      some = omega arith;
-      few = omega arith;
-    }
+    record { exact = x; whole = sym (ap length x) ∙ records-length rs; few = leb-true (length rs) maxRecords (left _ _ (right _ _ (left _ _ e))) }
 
 -- the sheet of one set, part by part
 set-sheet : (e r : ℕ) (w : WriteSet) → holding e r (aSet w ∷ []) ≡ soundOf e r noNotices (w ∷ [])
@@ -101,17 +89,16 @@ set-stored e r w b l₀ {l₁} {l₂} {l₃} {l₄} x p q s t =
     (s ∙ ap (stored l₂ 24) (sym (append-nil _)))
     (t ∙ ap (stored l₃ 40) (sym x ∙ sym (append-nil _)))
 
-pub set-held : (e r sen csn n : ℕ) (b l₀ : Bytes) {l₁ l₂ l₃ l₄ : Bytes} → length l₀ ≡ 168 → Offered b → n ≡ length b / 16 → l₁ ≡ stored l₀ 0 (startBytes e r false 1) → l₂ ≡ stored l₁ 8 noNotices
-    → l₃ ≡ stored l₂ 24 (entryBytes csn sen 0 n) → l₄ ≡ stored l₃ 40 b → Small (ofSet e r sen csn b) l₀ (40 + length b) l₄
+pub set-held : (e r sen csn n : ℕ) (b l₀ : Bytes) {l₁ l₂ l₃ l₄ : Bytes} → length l₀ ≡ 168 → Offered b → n ≡ length (offeredRecords b) → l₁ ≡ stored l₀ 0 (startBytes e r false 1) → l₂ ≡ stored l₁ 8 noNotices
+    → l₃ ≡ stored l₂ 24 (entryBytes csn sen 0 n) → l₄ ≡ stored l₃ 40 b → Small (ofSet e r sen csn b) l₀ (sheetLength 1 n) l₄
 unfolding ofSet
 set-held e r sen csn n b l₀ {l₁} {l₂} {l₃} {l₄} room f h p q s t =
     let w : WriteSet = record { csn = csn; sen = sen; records = offeredRecords b } in
-    let c : n ≡ length (offeredRecords b) = h ∙ sym (f .count) in
     let one = set-sheet e r w in
     record {
-      bytes = set-stored e r w b l₀ (f .exact) p q (s ∙ ap (λ (k : ℕ). stored l₂ 24 (entryBytes csn sen 0 k)) c) t ∙ ap (λ (x : Sheet). stored l₀ 0 (sheetBytes x)) (sym one);
-      long = omega (arith, f .whole, f .count, set-length e r w) ∙ ap (λ (x : Sheet). length (sheetBytes x)) (sym one);
-      fits = omega (arith, f .whole, f .few);
+      bytes = set-stored e r w b l₀ (f .exact) p q (s ∙ ap (λ (k : ℕ). stored l₂ 24 (entryBytes csn sen 0 k)) h) t ∙ ap (λ (x : Sheet). stored l₀ 0 (sheetBytes x)) (sym one);
+      long = omega (arith, h, set-length e r w) ∙ ap (λ (x : Sheet). length (sheetBytes x)) (sym one);
+      fits = omega (arith, h, f .few);
     }
 
 -- ---- one notice

@@ -12,12 +12,12 @@ use Rattle.gather.specs.declared.offer.Admission.{Admission}
 use Rattle.gather.specs.declared.offer.Admission.the-variants.{Granted, Refused}
 
 -- an offered set is well-formed
-unfoldable pub setOk : ℕ → ℕ → Bytes → Bool
-setOk epoch sen b = leb 1 epoch and leb sen epoch and areRecords b
+unfoldable pub goodSet : ℕ → ℕ → Bytes → Bool
+goodSet epoch sen b = leb 1 epoch and leb sen epoch and areRecords b
 
 -- an offered notice is well-formed
-unfoldable pub noticeOk : ℕ → ℕ → ℕ → Bool
-noticeOk epoch master n = leb 1 epoch and leb master 15 and leb n maxSets
+unfoldable pub goodNotice : ℕ → ℕ → ℕ → Bool
+goodNotice epoch master n = leb 1 epoch and leb master 15 and leb n maxSets
 
 -- another epoch, a master outside the roster, a short buffer
 unfoldable pub admissionOf : Sheet → ℕ → ℕ → ℕ → Admission

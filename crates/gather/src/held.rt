@@ -7,6 +7,7 @@ use crate::notices::notice_together;
 use crate::place::Place;
 use crate::place::advance;
 use forms::epoch;
+use forms::length_with;
 use forms::put_body;
 use forms::put_entry;
 use forms::put_notice;
@@ -14,12 +15,12 @@ use forms::put_sheet_start;
 use forms::roster;
 ghost use mathlib.Core.Path.{_≡_};
 ghost use mathlib.Core.List.{map};
-ghost use Prim.Native.Nat.{_+_, _*_, _≤_};
+ghost use Prim.Native.Nat.{_≤_};
 ghost use lib.ListN.{length};
 ghost use Rattle.words.specs.Words.{stored};
 ghost use Rattle.rules.specs.Sheet.{sheetIn, masters, contentsFrom, bodies};
 ghost use Rattle.laws.specs.Joining.{noticeTogether, together, joinHeld};
-ghost use Rattle.forms.specs.SheetReadings.{total};
+ghost use Rattle.forms.specs.SheetReadings.{entryPlace, total};
 ghost use Rattle.gather.specs.Walk.{Both, Room};
 ghost use Rattle.gather.specs.OneSheet.{Written};
 
@@ -54,7 +55,7 @@ fn put_contents(a: &[u8], b: &[u8], n: usize, out: &mut [u8]) -> usize
 
 fn put_bodies<'a>(a: &'a [u8], b: &'a [u8], n: usize, out: &mut [u8])
     requires { ⌜ Room (now a) (now b) n (now out) ⌝ }
-    ensures { λ _. ⌜ now (out .exit) ≡ stored (now (out .entry)) (24 + 16 * n) (bodies (together (sheetIn (now (a .entry))) (sheetIn (now (b .entry))))) ⌝ }
+    ensures { λ _. ⌜ now (out .exit) ≡ stored (now (out .entry)) (entryPlace n) (bodies (together (sheetIn (now (a .entry))) (sheetIn (now (b .entry))))) ⌝ }
 {
     let mut p = Place { i: 0, j: 0 };
     let mut k: usize = 0;
@@ -76,5 +77,5 @@ pub fn put_held<'a>(a: &'a [u8], b: &'a [u8], n: usize, out: &mut [u8]) -> usize
     put_notices(a, b, out);
     let records = put_contents(a, b, n, out);
     put_bodies(a, b, n, out);
-    24 + 16 * n + 16 * records
+    length_with(n, records)
 }

@@ -5,6 +5,7 @@ use crate::spoil::spoils;
 use forms::epoch;
 use forms::is_sheet;
 use forms::is_spoiled;
+use forms::length_with;
 use forms::put_no_notices;
 use forms::put_sheet_start;
 use forms::roster;
@@ -28,7 +29,7 @@ fn put_spoiled(a: &[u8], out: &mut [u8]) -> usize
 {
     put_sheet_start(out, epoch(a), roster(a), true, 0);
     put_no_notices(out);
-    24
+    length_with(0, 0)
 }
 
 // The sheet of both sheets' offers, at the start of out, and its length.

@@ -21,7 +21,7 @@ ghost use Rattle.rules.specs.Promises.{Promise};
 ghost use Rattle.rules.specs.Numbers.{masterOf};
 ghost use Rattle.rules.specs.Gathering.{aSet, aNotice, withOffer};
 ghost use Rattle.gather.specs.OneSheet.{Written, setOf, noticeBy};
-ghost use Rattle.gather.specs.Offers.{setOk, noticeOk, admissionOf, Grant};
+ghost use Rattle.gather.specs.Offers.{goodSet, goodNotice, admissionOf, Grant};
 
 // Whether a sheet takes an offer in.
 pub enum Admission {
@@ -30,7 +30,7 @@ pub enum Admission {
 }
 
 fn is_set(epoch: u32, sen: u32, records: &[u8]) -> bool
-    ensures { λ r. ⌜ r ≡ setOk epoch sen (now (records .entry)) ⌝ }
+    ensures { λ r. ⌜ r ≡ goodSet epoch sen (now (records .entry)) ⌝ }
 {
     if epoch < 1 {
         return false;
@@ -45,7 +45,7 @@ fn is_set(epoch: u32, sen: u32, records: &[u8]) -> bool
 }
 
 fn is_notice(epoch: u32, master: u8, count: u8) -> bool
-    ensures { λ r. ⌜ r ≡ noticeOk epoch master count ⌝ }
+    ensures { λ r. ⌜ r ≡ goodNotice epoch master count ⌝ }
 {
     if epoch < 1 {
         return false;
@@ -78,7 +78,7 @@ fn admit(sheet: &[u8], offered: u32, master: u32, room: usize) -> Admission
 
 // An admitted set, joined as a sheet of its own.
 fn add_set(sheet: &[u8], epoch: u32, sen: u32, csn: u64, records: &[u8], out: &mut [u8]) -> usize
-    requires { ⌜ (isSheet (now sheet) ≡ true) × (setOk epoch sen (now records) ≡ true) × (Grant (sheetIn (now sheet)) epoch (masterOf csn) (length (now out))) ⌝ }
+    requires { ⌜ (isSheet (now sheet) ≡ true) × (goodSet epoch sen (now records) ≡ true) × (Grant (sheetIn (now sheet)) epoch (masterOf csn) (length (now out))) ⌝ }
     ensures { λ r. ⌜ Written (withOffer (sheetIn (now (sheet .entry))) (aSet (setOf sen csn (now (records .entry))))) (now (out .entry)) r (now (out .exit)) ⌝ }
 {
     let mut one = [0u8; 168];
@@ -88,7 +88,7 @@ fn add_set(sheet: &[u8], epoch: u32, sen: u32, csn: u64, records: &[u8], out: &m
 
 // An admitted notice, joined as a sheet of its own.
 fn add_notice(sheet: &[u8], epoch: u32, master: u8, count: u8, out: &mut [u8]) -> usize
-    requires { ⌜ (isSheet (now sheet) ≡ true) × (noticeOk epoch master count ≡ true) × (Grant (sheetIn (now sheet)) epoch master (length (now out))) ⌝ }
+    requires { ⌜ (isSheet (now sheet) ≡ true) × (goodNotice epoch master count ≡ true) × (Grant (sheetIn (now sheet)) epoch master (length (now out))) ⌝ }
     ensures { λ r. ⌜ Written (withOffer (sheetIn (now (sheet .entry))) (aNotice (noticeBy master count))) (now (out .entry)) r (now (out .exit)) ⌝ }
 {
     let mut one = [0u8; 168];

@@ -1,4 +1,6 @@
 // The sheet of one offer, written into a small buffer: putting an offer in is joining with it.
+use forms::length_with;
+use forms::offered_count;
 use forms::put_body;
 use forms::put_entry;
 use forms::put_no_notices;
@@ -11,17 +13,17 @@ ghost use lib.ListN.{length};
 ghost use Rattle.rules.specs.Sheet.{areRecords};
 ghost use Rattle.gather.specs.OneSheet.{Small, ofSet, ofNotice};
 
-// One set: 24 bytes of head, 16 of contents, and its records.
+// One set: the head, one entry, and its records.
 pub fn one_set(out: &mut [u8], epoch: u32, roster: u16, sen: u32, csn: u64, records: &[u8]) -> usize
     requires { ⌜ (length (now out) ≡ 168) × (areRecords (now records) ≡ true) ⌝ }
     ensures { λ r. ⌜ Small (ofSet epoch roster sen csn (now (records .entry))) (now (out .entry)) r (now (out .exit)) ⌝ }
 {
-    let n = records.len() / 16;
+    let n = offered_count(records);
     put_sheet_start(out, epoch, roster, false, 1);
     put_no_notices(out);
     put_entry(out, 0, csn, sen, 0, n);
     put_body(out, 1, 0, records);
-    40 + records.len()
+    length_with(1, n)
 }
 
 // One notice: the head alone.
@@ -34,5 +36,5 @@ pub fn one_notice(out: &mut [u8], epoch: u32, roster: u16, master: u8, count: u8
     notices[m] = count;
     put_sheet_start(out, epoch, roster, false, 0);
     put_notices(out, &notices);
-    24
+    length_with(0, 0)
 }

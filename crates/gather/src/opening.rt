@@ -1,4 +1,5 @@
 // Opening: the sound sheet with no set and no notice.
+use forms::length_with;
 use forms::put_no_notices;
 use forms::put_sheet_start;
 use rules::Answer;
@@ -22,5 +23,5 @@ pub fn open(epoch: u32, roster: u16, out: &mut [u8]) -> Answer
     }
     put_sheet_start(out, epoch, roster, false, 0);
     put_no_notices(out);
-    Answer::Wrote(24)
+    Answer::Wrote(length_with(0, 0))
 }

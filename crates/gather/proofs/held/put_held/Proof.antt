@@ -24,32 +24,23 @@ put-contents-requires c κs = search needs
 put-bodies-requires : tie.Need-put-bodies-requires
 put-bodies-requires c κs = search needs
 
-mul-result : tie.Need-mul-result
-mul-result c = search needs
-
-add-result : tie.Need-add-result
-add-result c = search needs
-
-mul-result-2 : tie.Need-mul-result-2
-mul-result-2 c =
+length-with-requires : tie.Need-length-with-requires
+length-with-requires c κs =
     let s = c .before .before .before .before .before .before .before .before .before .before .before .before .before .before .before .before .before .before .before .before .before in
-    omega (arith, c .before .before .before .before .before .before .put-contents .ensures .0, s .pre .few, s .pre .count, together-total (now (s .args .a)) (now (s .args .b)) (s .pre .sheets))
-
-add-result-2 : tie.Need-add-result-2
-add-result-2 c =
-    let s = c .before .before .before .before .before .before .before .before .before .before .before .before .before .before .before .before .before .before .before .before .before in
-    omega (arith, c .before .before .before .before .before .before .put-contents .ensures .0, s .pre .few, s .pre .count, together-total (now (s .args .a)) (now (s .args .b)) (s .pre .sheets))
+    (s .pre .few, omega (arith, c .before .before .before .before .before .before .put-contents .ensures .0, s .pre .few, s .pre .count, together-total (now (s .args .a)) (now (s .args .b)) (s .pre .sheets)))
 
 same-length : tie.Need-same-length
 same-length c = search needs
 
 returns : tie.Need-returns
 returns c =
-    let s = c .before .before .before .before .before .before .before .before .before .before .before .before .before .before .before .before .before .before .before .before .before in
-    let k = c .before .before .before .before .before .before in
+    let d = c .before in
+    let s = d .before .before .before .before .before .before .before .before .before .before .before .before .before .before .before .before .before .before .before .before .before in
+    let k = d .before .before .before .before .before .before in
     let m = k .before .before .before .before in
     let w = m .before .before .before .before in
-    held-written (now (s .args .a)) (now (s .args .b)) (now (s .args .out)) _ _ _ _ (s .pre) (w .before .before .epoch .ensures) (w .before .roster .ensures) (k .put-contents .ensures .0) (w .put-sheet-start .ensures) (m .put-notices .ensures) (k .put-contents .ensures .1) (c .before .before .put-bodies .ensures)
+    rw (c .length-with .ensures)
+    (held-written (now (s .args .a)) (now (s .args .b)) (now (s .args .out)) _ _ _ _ (s .pre) (w .before .before .epoch .ensures) (w .before .roster .ensures) (k .put-contents .ensures .0) (w .put-sheet-start .ensures) (m .put-notices .ensures) (k .put-contents .ensures .1) (d .before .before .put-bodies .ensures))
 
 pub put-held-spec : {M : Type 1} → statement M
 put-held-spec =
@@ -61,9 +52,6 @@ put-held-spec =
     put-notices-requires
     put-contents-requires
     put-bodies-requires
-    mul-result
-    add-result
-    mul-result-2
-    add-result-2
+    length-with-requires
     same-length
     returns)

@@ -18,14 +18,18 @@ put-sheet-start-requires c κs = search needs
 put-no-notices-requires : tie.Need-put-no-notices-requires
 put-no-notices-requires c κs = search needs
 
+length-with-requires : tie.Need-length-with-requires
+length-with-requires c κs = search needs
+
 same-length : tie.Need-same-length
 same-length c = search needs
 
 returns : tie.Need-returns
 returns c =
-    let s = c .before .before .before .before .before .before .before .before .before .before .before .before in
-    let w = c .before .before .before .before .before .before in
-    spoiled-written (sheetIn (now (s .args .a))) (now (s .args .out)) _ _ (w .before .before .epoch .ensures) (w .before .roster .ensures) (s .pre .1) (w .put-sheet-start .ensures) (c .before .before .put-no-notices .ensures)
+    let d = c .before in
+    let s = d .before .before .before .before .before .before .before .before .before .before .before .before in
+    let w = d .before .before .before .before .before .before in
+    rw (c .length-with .ensures) (spoiled-written (sheetIn (now (s .args .a))) (now (s .args .out)) _ _ (w .before .before .epoch .ensures) (w .before .roster .ensures) (s .pre .1) (w .put-sheet-start .ensures) (d .before .before .put-no-notices .ensures))
 
 pub put-spoiled-spec : {M : Type 1} → statement M
 put-spoiled-spec =
@@ -35,5 +39,6 @@ put-spoiled-spec =
     roster-requires
     put-sheet-start-requires
     put-no-notices-requires
+    length-with-requires
     same-length
     returns)

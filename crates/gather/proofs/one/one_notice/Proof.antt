@@ -16,13 +16,17 @@ slice-aggregate-put-notices c = search needs
 put-notices-requires : tie.Need-put-notices-requires
 put-notices-requires c κs = search needs
 
+length-with-requires : tie.Need-length-with-requires
+length-with-requires c κs = search needs
+
 same-length : tie.Need-same-length
 same-length c = search needs
 
 returns : tie.Need-returns
 returns c =
-    let s = c .before .before .before .before .before .before .before .before .before .before in
-    notice-held _ _ _ _ _ (s .pre .0) (s .pre .1) (s .pre .2) (c .before .before .before .before .before .before .before .put-sheet-start .ensures) (c .before .before .put-notices .ensures)
+    let d = c .before in
+    let s = d .before .before .before .before .before .before .before .before .before .before in
+    rw (c .length-with .ensures) (notice-held _ _ _ _ _ (s .pre .0) (s .pre .1) (s .pre .2) (d .before .before .before .before .before .before .before .put-sheet-start .ensures) (d .before .before .put-notices .ensures))
 
 pub one-notice-spec : {M : Type 1} → statement M
 one-notice-spec =
@@ -32,5 +36,6 @@ one-notice-spec =
     put-sheet-start-requires
     slice-aggregate-put-notices
     put-notices-requires
+    length-with-requires
     same-length
     returns)

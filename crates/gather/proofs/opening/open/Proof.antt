@@ -22,10 +22,14 @@ put-no-notices-requires c κs = search needs
 same-length : tie.Need-same-length
 same-length c = search needs
 
+length-with-requires : tie.Need-length-with-requires
+length-with-requires c κs = search needs
+
 returns-4 : tie.Need-returns-4
 returns-4 c =
-    let s = c .before .before .before .before .before .before .before .before in
-    opened _ _ _ (s .before .before .if1 .left) (s .before .if2 .left) (s .if3 .left) (c .before .before .before .before .before .before .put-sheet-start .ensures) (c .before .before .put-no-notices .ensures)
+    let d = c .before in
+    let s = d .before .before .before .before .before .before .before .before in
+    rw (c .length-with .ensures) (opened _ _ _ (s .before .before .if1 .left) (s .before .if2 .left) (s .if3 .left) (d .before .before .before .before .before .before .put-sheet-start .ensures) (d .before .before .put-no-notices .ensures))
 
 pub open-spec : {M : Type 1} → statement M
 open-spec =
@@ -36,5 +40,6 @@ open-spec =
     returns-3
     put-sheet-start-requires
     put-no-notices-requires
+    length-with-requires
     same-length
     returns-4)
