@@ -10,7 +10,8 @@
  *   2 sheet ill-formed               7 close: a roster master has no notice, or fewer sets than it says
  *   3 set or notice ill-formed       8 close: the next register would have over 1,024 rows
  *   4 epoch 0, or another epoch      9 an output buffer is too short
- *   5 roster 0, or another roster   10 read check: mode, key, number of entries or lsn
+ *   5 roster 0, another roster,     10 read check: mode, key, number of entries or lsn
+ *     or the master is not in it
  */
 #ifndef CASTORPEDAL_H
 #define CASTORPEDAL_H
