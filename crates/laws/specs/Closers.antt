@@ -115,6 +115,14 @@ closed-again r t n m c p n′ m′ =
     let epoch = h .follows in
     simp (again, h .reads-sheet, ne-eqb s.epoch (g.snapshot + 1 + 1) (λ e. absurd (omega arith)))
 
+-- NO EPOCH FOLLOWS SNAPSHOT 4,294,967,295: every sheet is refused with 4
+pub none-follows : (r t : Bytes) (n m : ℕ) (g : Register) (s : Sheet) → readRegister r ≡ some g → readSheet t ≡ some s → g.snapshot ≡ 4294967295
+    → closeOutcome r t n m ≡ refused 4
+unfolding closeOutcome closeSheet
+none-follows r t n m g s p q e =
+    let k = sheet.soundSheet→ s (sheet.written-read t s q .1) in
+    simp (p, q, ne-eqb s.epoch (g.snapshot + 1) (λ c. absurd (omega (arith, k .epoch))))
+
 -- ---- wrong versions
 
 -- REFUSING ALWAYS

@@ -30,7 +30,7 @@ pub record Promise (o : Outcome Bytes) (before : Bytes) (answer : Answer) (after
   pub answered : answerNumbers answer ≡ told o
   pub buffer : after ≡ left o before
 
--- the same of closing, with two lengths
+-- the number and the two lengths that an outcome of closing is answered with
 unfoldable pub toldClosing : Outcome Closing → ℕ × ℕ × ℕ
 toldClosing (refused n) = (n, 0, 0)
 toldClosing (done c) = (0, length c.register, length c.verdicts)
