@@ -1,4 +1,4 @@
--- What the lengths of a sheet's start say, and that a well-formed sheet's own length is what its head and contents tell.
+-- What the lengths of a sheet's start say, and that its own length is what its head and contents tell to a reader who has seen no more.
 use Prim.Native.Nat.{ℕ, zero, suc, _+_, _*_, _<_, _≤_}
 use mathlib.Core.Path.{_≡_, refl, sym, _∙_, ap}
 use mathlib.Core.Bool.{true}
@@ -7,9 +7,10 @@ use native.Mathlib.Numerals.{add-one}
 use native.Mathlib.Decide.{decLt}
 use native.Mathlib.Omega.{arith}
 use borrow.Author.Tests.{le-leb, lt-leb, eq-eqb, ne-eqb}
-use lib.ListN.{length, getD, take}
-use lib.Seq.{take-all}
+use lib.ListN.{length, getD, take, length-take}
+use lib.Seq.{take-all, getD-take}
 use Rattle.words.specs.Words.{Bytes, word}
+use Rattle.words.proofs.Laws.{word-same}
 use Rattle.rules.specs.Lists.{_and_}
 use Rattle.rules.specs.Sheet.{WriteSet, isSheet, sheetIn}
 use Rattle.forms.specs.SheetReadings.{noSet, setAt, total, entryPlace}
@@ -71,13 +72,33 @@ counts-total b zero h = unfold total in refl
 counts-total b (suc n) h =
     omega (arith, counts-total b n (omega arith), record-count b n (omega arith), total-next (sheetIn b .sets) n (omega arith))
 
--- THE LENGTH OF A WELL-FORMED SHEET IS WHAT ITS HEAD AND CONTENTS TELL
-pub own-length : (b : Bytes) → isSheet b ≡ true → sheetEnd b ≡ length b
-own-length b e =
+-- the counts stand in the contents, so no more need be seen
+same-counts : (k : ℕ) (b : Bytes) (n : ℕ) → entryPlace k ≤ n → countsTo k (take n b) ≡ countsTo k b
+unfolding countsTo
+same-counts zero b n h = refl
+same-counts (suc k) b n h =
+    let w : word 2 (take n b) (entryPlace k + 14) ≡ word 2 b (entryPlace k + 14) =
+    word-same 2 (take n b) b (entryPlace k + 14) (λ j l m. getD-take n b j 0 (omega arith)) in
+    rw (same-counts k b n (omega arith), w)
+
+-- WHERE A SHEET'S CONTENTS END IS WHAT ITS HEAD TELLS, however much more of it is seen
+pub own-contents : (b : Bytes) → isSheet b ≡ true → (n : ℕ) → 24 ≤ n → contentsEnd (take n b) ≡ entryPlace (length (sheetIn b .sets))
+own-contents b e n h =
     let f = formed b e in
-    let n = set-count b in
     let few = few-sets b e in
-    let t = head-tells b (omega (arith, f .long)) (omega arith) in
-    let all : take (getD b 7 0) (sheetIn b .sets) ≡ sheetIn b .sets = take-all (getD b 7 0) (sheetIn b .sets) (omega arith) in
-    let c = counts-total b (getD b 7 0) (omega arith) ∙ ap total all in
-    sym (contents-tell b (omega arith) (omega (arith, f .long))) ∙ omega (arith, f .long, c, t, n)
+    let c : getD (take n b) 7 0 ≡ length (sheetIn b .sets) = getD-take n b 7 0 (omega arith) ∙ sym (set-count b) in
+    let seen : 24 ≤ length (take n b) = simp length-take (omega (arith, f .long)) in
+    sym (head-tells (take n b) seen (omega arith)) ∙ ap entryPlace c
+
+-- A SHEET'S LENGTH IS WHAT ITS HEAD AND CONTENTS TELL, however much more of it is seen
+pub own-length : (b : Bytes) → isSheet b ≡ true → (n : ℕ) → entryPlace (length (sheetIn b .sets)) ≤ n → sheetEnd (take n b) ≡ length b
+own-length b e n h =
+    let f = formed b e in
+    let ws = sheetIn b .sets in
+    let c : getD (take n b) 7 0 ≡ length ws = getD-take n b 7 0 (omega arith) ∙ sym (set-count b) in
+    let t = own-contents b e n (omega arith) in
+    let seen : entryPlace (length ws) ≤ length (take n b) = simp length-take (omega (arith, f .long)) in
+    let all : take (length ws) ws ≡ ws = take-all (length ws) ws (omega arith) in
+    let d : countsTo (getD (take n b) 7 0) (take n b) ≡ total ws =
+    ap (λ (k : ℕ). countsTo k (take n b)) c ∙ same-counts (length ws) b n h ∙ counts-total b (length ws) (omega arith) ∙ ap total all in
+    sym (contents-tell (take n b) (omega arith) (omega arith)) ∙ omega (arith, f .long, d, t)
