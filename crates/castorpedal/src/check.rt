@@ -15,7 +15,7 @@ pub extern "C" fn castorpedal_check(
 ) -> CChecked
     ensures { λ r. ⌜ KeptCheck (checkOutcome (now (register .entry)) mode lsn (now (keys .entry)) (now (csns .entry))) r ⌝ }
 {
-    checked(reads::check(register, mode, lsn, keys, csns))
+    checked(merge::check(register, mode, lsn, keys, csns))
 }
 
 #[no_mangle]
@@ -27,5 +27,5 @@ pub extern "C" fn castorpedal_check_reads(
 ) -> CChecked
     ensures { λ r. ⌜ KeptCheck (readsOutcome (now (register .entry)) mode lsn (now (reads .entry))) r ⌝ }
 {
-    checked(reads::check_reads(register, mode, lsn, reads))
+    checked(merge::check_reads(register, mode, lsn, reads))
 }
