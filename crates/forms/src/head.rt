@@ -1,4 +1,6 @@
 // The head of a sheet: epoch, roster, state, set count and notices.
+use rules::MAX_SETS;
+use rules::NO_NOTICE;
 use words::get16;
 use words::get32;
 ghost use mathlib.Core.Path.{_≡_};
@@ -24,7 +26,7 @@ fn no_notices(b: &[u8]) -> bool
 {
     let mut at: usize = 8;
     while at < 24 {
-        if b[at] != 255 {
+        if b[at] != NO_NOTICE {
             return false;
         }
         at += 1;
@@ -66,7 +68,7 @@ pub fn head_ok(b: &[u8]) -> bool
     if !state_ok(b) {
         return false;
     }
-    if 64 < b[7] {
+    if MAX_SETS < b[7] as usize {
         return false;
     }
     true

@@ -1,4 +1,5 @@
 // The records of a set: an offered set's bytes, and a body in a sheet.
+use rules::Record;
 use words::get32;
 use words::get64;
 ghost use mathlib.Core.Path.{_≡_};
@@ -13,10 +14,10 @@ fn record_ok(b: &[u8], at: usize, prev: u32) -> bool
     ensures { λ r. ⌜ r ≡ recordOk prev (now (b .entry)) at ⌝ }
 {
     let kind = b[at];
-    if kind < 1 {
+    if kind < Record::CHANGE {
         return false;
     }
-    if 3 < kind {
+    if Record::DELETE < kind {
         return false;
     }
     if b[at + 1] != 0 {
@@ -31,7 +32,7 @@ fn record_ok(b: &[u8], at: usize, prev: u32) -> bool
     if get32(b, at + 4) <= prev {
         return false;
     }
-    if kind != 3 {
+    if kind != Record::DELETE {
         return true;
     }
     if get64(b, at + 8) != 0 {

@@ -1,4 +1,5 @@
 // The register: a head of 8 bytes and rows of 28. Whether bytes are one, what it holds, and how it is written.
+use rules::MAX_ROWS;
 use rules::Mark;
 use rules::Row;
 use words::get32;
@@ -21,7 +22,7 @@ pub fn register_length(head: &[u8]) -> usize
         return 0;
     }
     let n = get32(head, 4) as usize;
-    if 1024 < n {
+    if MAX_ROWS < n {
         return 0;
     }
     8 + 28 * n

@@ -2,6 +2,8 @@
 use crate::contents::sets_ok;
 use crate::head::head_ok;
 use crate::head::in_roster;
+use rules::MAX_NOTICE;
+use rules::NO_NOTICE;
 ghost use mathlib.Core.Path.{_≡_};
 ghost use Prim.Native.Nat.{_+_, _≤_, _<_};
 ghost use lib.ListN.{length, getD};
@@ -16,13 +18,13 @@ fn notice_ok(b: &[u8], m: usize, sets: u8) -> bool
     ensures { λ r. ⌜ r ≡ soundNotice (word 2 (now (b .entry)) 4) m (getD (now (b .entry)) (8 + m) 0) sets ⌝ }
 {
     let notice = b[8 + m];
-    if notice == 255 {
+    if notice == NO_NOTICE {
         return true;
     }
     if !in_roster(b, m as u32) {
         return false;
     }
-    if 64 < notice {
+    if MAX_NOTICE < notice {
         return false;
     }
     if notice < sets {

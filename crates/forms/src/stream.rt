@@ -1,4 +1,5 @@
 // How long a sheet is, for a reader of a stream: safe on any bytes.
+use rules::MAX_SETS;
 use words::get16;
 ghost use mathlib.Core.Path.{_≡_};
 ghost use Rattle.forms.specs.SheetLength.{contentsEnd, sheetEnd};
@@ -11,7 +12,7 @@ pub fn contents_length(b: &[u8]) -> usize
         return 0;
     }
     let n = b[7] as usize;
-    if 64 < n {
+    if MAX_SETS < n {
         return 0;
     }
     24 + 16 * n

@@ -27,6 +27,9 @@ returns-3 c = no-of (head-tests _) (λ r. clash (r .1 .1 .0) (search said-no))
 shared-slice-read-if4 : tie.Need-shared-slice-read-if4
 shared-slice-read-if4 c = search needs
 
+cast-if4 : tie.Need-cast-if4
+cast-if4 c = omega (arith, c .shared-slice-known2 .given 7)
+
 returns-4 : tie.Need-returns-4
 returns-4 c = no-of (head-tests _) (λ r. omega arith)
 
@@ -44,5 +47,6 @@ head-ok-spec =
     state-ok-requires
     returns-3
     shared-slice-read-if4
+    cast-if4
     returns-4
     returns-5)
