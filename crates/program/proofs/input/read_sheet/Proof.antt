@@ -2,8 +2,8 @@
 use native.Mathlib.Omega.{arith}
 use lib.ListN.{length-take}
 use borrow.Author.Needs.{needs}
-use Rattle.close.proofs.input.read_sheet.Statement.{statement}
-use Rattle.close.proofs.input.read_sheet.Tie as tie
+use Rattle.program.proofs.input.read_sheet.Statement.{statement}
+use Rattle.program.proofs.input.read_sheet.Tie as tie
 
 slice-relend-prefix-read-full : tie.Need-slice-relend-prefix-read-full
 slice-relend-prefix-read-full c = search needs

@@ -13,8 +13,8 @@ use Rattle.rules.specs.declared.answer.Answer.the-variants as answer
 use Rattle.rules.specs.Answers.{refusalNumber, answerNumbers}
 use Rattle.rules.specs.Refused.{Outcome, refused, done}
 use Rattle.rules.specs.Promises.{over, told, left, Promise}
-use Rattle.close.proofs.PrintLaws.{number-some}
-use Rattle.close.specs.Joins.{Joins}
+use Rattle.program.proofs.PrintLaws.{number-some}
+use Rattle.program.specs.Joins.{Joins}
 
 part-front : (b rest : Bytes) (n : ℕ) → n ≡ length b → part (b ++ rest) 0 n ≡ b
 unfolding part

@@ -5,7 +5,7 @@ use rules::Closed;
 ghost use Prim.Native.Nat.{_≤_};
 ghost use lib.ListN.{length};
 ghost use Rattle.report.specs.Report.{Put, reportRoom};
-ghost use Rattle.close.specs.Printed.{closedText};
+ghost use Rattle.program.specs.Printed.{closedText};
 
 // The report or the refusal, at the start of out.
 pub fn write_closed(register: &[u8], sheet: &[u8], out: &mut [u8]) -> usize

@@ -3,10 +3,10 @@ use native.Mathlib.Omega.{arith}
 use lib.ListN.{length-take}
 use mathlib.Core.Path.{ap}
 use Rattle.rules.specs.Refused.{joinOutcome}
-use Rattle.close.proofs.JoinsLaws.{fits-in, joined-in, not-joined, joins-as}
+use Rattle.program.proofs.JoinsLaws.{fits-in, joined-in, not-joined, joins-as}
 use borrow.Author.Needs.{needs}
-use Rattle.close.proofs.input.join_to.Statement.{statement}
-use Rattle.close.proofs.input.join_to.Tie as tie
+use Rattle.program.proofs.input.join_to.Statement.{statement}
+use Rattle.program.proofs.input.join_to.Tie as tie
 
 slice-reshare-prefix-join : tie.Need-slice-reshare-prefix-join
 slice-reshare-prefix-join c = search needs

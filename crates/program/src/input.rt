@@ -12,7 +12,7 @@ ghost use Prim.Native.Nat.{_≤_};
 ghost use lib.ListN.{length, take};
 ghost use Rattle.rules.specs.Refused.{joinOutcome};
 ghost use Rattle.rules.specs.Answers.{refusalNumber};
-ghost use Rattle.close.specs.Joins.{Joins};
+ghost use Rattle.program.specs.Joins.{Joins};
 
 // The length of a sheet that came, or 0 and the number of the refusal; both are 0 where the input had ended.
 pub struct Came {
@@ -36,18 +36,18 @@ fn refuse(x: Refusal) -> Came
 }
 
 // Whether the input has all bytes of buf from `at` up to `end`.
-fn fill(buf: &mut [u8], at: usize, end: usize) -> bool
+fn fill(file: i32, buf: &mut [u8], at: usize, end: usize) -> bool
     requires { ⌜ (at ≤ end) × (end ≤ length (now buf)) ⌝ }
 {
-    io::read_full(0, &mut buf[at..end]) == end - at
+    io::read_full(file, &mut buf[at..end]) == end - at
 }
 
 // The length of the register that came, or 0 if none did.
-pub fn read_register(buf: &mut [u8]) -> usize
+pub fn read_register(file: i32, buf: &mut [u8]) -> usize
     requires { ⌜ length (now buf) ≡ 28680 ⌝ }
     ensures { λ r. ⌜ r ≤ 28680 ⌝ }
 {
-    if !fill(buf, 0, 8) {
+    if !fill(file, buf, 0, 8) {
         return 0;
     }
     let len = register_length(&buf[..8]);
@@ -57,7 +57,7 @@ pub fn read_register(buf: &mut [u8]) -> usize
     if 28680 < len {
         return 0;
     }
-    if !fill(buf, 8, len) {
+    if !fill(file, buf, 8, len) {
         return 0;
     }
     if !is_register(&buf[..len]) {
@@ -67,7 +67,7 @@ pub fn read_register(buf: &mut [u8]) -> usize
 }
 
 // The rest of a sheet whose head has come.
-fn read_bodies(buf: &mut [u8]) -> Came
+fn read_bodies(file: i32, buf: &mut [u8]) -> Came
     requires { ⌜ length (now buf) ≡ 9240 ⌝ }
     ensures { λ r. ⌜ r .len ≤ 9240 ⌝ }
 {
@@ -78,7 +78,7 @@ fn read_bodies(buf: &mut [u8]) -> Came
     if 9240 < end {
         return refuse(Refusal::SheetIllFormed);
     }
-    if !fill(buf, 24, end) {
+    if !fill(file, buf, 24, end) {
         return refuse(Refusal::SheetIllFormed);
     }
     let len = sheet_length(&buf[..end]);
@@ -88,7 +88,7 @@ fn read_bodies(buf: &mut [u8]) -> Came
     if 9240 < len {
         return refuse(Refusal::SheetIllFormed);
     }
-    if !fill(buf, end, len) {
+    if !fill(file, buf, end, len) {
         return refuse(Refusal::SheetIllFormed);
     }
     if !is_sheet(&buf[..len]) {
@@ -97,18 +97,18 @@ fn read_bodies(buf: &mut [u8]) -> Came
     Came { len, refused: 0 }
 }
 
-fn read_sheet(buf: &mut [u8]) -> Came
+fn read_sheet(file: i32, buf: &mut [u8]) -> Came
     requires { ⌜ length (now buf) ≡ 9240 ⌝ }
     ensures { λ r. ⌜ r .len ≤ 9240 ⌝ }
 {
-    let got = io::read_full(0, &mut buf[..24]);
+    let got = io::read_full(file, &mut buf[..24]);
     if got == 0 {
         return ended();
     }
     if got < 24 {
         return refuse(Refusal::SheetIllFormed);
     }
-    read_bodies(buf)
+    read_bodies(file, buf)
 }
 
 // Another sheet joined to the one in the first n bytes, in its place.
@@ -127,12 +127,12 @@ fn join_to(sheet: &mut [u8], n: usize, more: &[u8]) -> Came
 }
 
 // The next sheet joined to the one in the first n bytes, or the end.
-fn join_next(sheet: &mut [u8], n: usize) -> Came
+fn join_next(file: i32, sheet: &mut [u8], n: usize) -> Came
     requires { ⌜ (length (now sheet) ≡ 9240) × (n ≤ 9240) ⌝ }
     ensures { λ r. ⌜ r .len ≤ 9240 ⌝ }
 {
     let mut more = [0u8; 9240];
-    let came = read_sheet(&mut more);
+    let came = read_sheet(file, &mut more);
     let m = came.len;
     if m == 0 {
         return came;
@@ -141,18 +141,18 @@ fn join_next(sheet: &mut [u8], n: usize) -> Came
 }
 
 // All sheets joined. At most 65,536 are read, so that no input keeps the program for ever.
-pub fn gather(sheet: &mut [u8]) -> Came
+pub fn read_sheets(file: i32, sheet: &mut [u8]) -> Came
     requires { ⌜ length (now sheet) ≡ 9240 ⌝ }
     ensures { λ r. ⌜ r .len ≤ 9240 ⌝ }
 {
-    let first = read_sheet(sheet);
+    let first = read_sheet(file, sheet);
     let mut n = first.len;
     if n == 0 {
         return refuse(Refusal::SheetIllFormed);
     }
     let mut left: u32 = 65536;
     while 0 < left {
-        let came = join_next(sheet, n);
+        let came = join_next(file, sheet, n);
         if came.refused != 0 {
             return came;
         }

@@ -3,14 +3,14 @@ use mathlib.Core.Path.{_≡_}
 use Prim.Native.Nat.{_≤_}
 use lib.ListN.{length}
 use borrow.Author.Needs.{needs}
-use Rattle.close.proofs.input.gather.Statement.{statement}
-use Rattle.close.proofs.input.gather.Tie as tie
+use Rattle.program.proofs.input.read_sheets.Statement.{statement}
+use Rattle.program.proofs.input.read_sheets.Tie as tie
 
 abbrev Inv-loop : tie.InvT-loop
-Inv-loop sheet₀ n₀ left₀ sheet n left = (length sheet ≡ 9240) × (n ≤ 9240)
+Inv-loop file sheet₀ n₀ left₀ sheet n left = (length sheet ≡ 9240) × (n ≤ 9240)
 
 abbrev μ-loop : tie.MeasureT-loop
-μ-loop sheet₀ n₀ left₀ sheet n left = left
+μ-loop file sheet₀ n₀ left₀ sheet n left = left
 
 read-sheet-requires : tie.Need-read-sheet-requires Inv-loop μ-loop
 read-sheet-requires c κs = search needs
@@ -60,8 +60,8 @@ same-length-4 c = search needs
 returns-4 : tie.Need-returns-4 Inv-loop μ-loop
 returns-4 c = search needs
 
-pub gather-spec : {M : Type 1} → statement M
-gather-spec =
+pub read-sheets-spec : {M : Type 1} → statement M
+read-sheets-spec =
     tie.close
     (tie.spec
     Inv-loop

@@ -4,12 +4,12 @@ use lib.ListN.{length-take}
 use mathlib.Core.Path.{_∙_, ap}
 use denote.Ref.{now}
 use Rattle.report.specs.Report.{refusedText}
-use Rattle.close.proofs.PrintLaws.{Written, closed-written, refused-text, put-as}
+use Rattle.program.proofs.PrintLaws.{Written, closed-written, refused-text, put-as}
 use borrow.Author.Needs.{needs}
-use Rattle.close.proofs.closed.write_closed.Statement.{statement}
-use Rattle.close.proofs.closed.write_closed.Tie as tie
-use Rattle.close.proofs.closed.write_closed.Reads as reads
-use Rattle.close.proofs.closed.write_closed.Lts as lts
+use Rattle.program.proofs.closed.write_closed.Statement.{statement}
+use Rattle.program.proofs.closed.write_closed.Tie as tie
+use Rattle.program.proofs.closed.write_closed.Reads as reads
+use Rattle.program.proofs.closed.write_closed.Lts as lts
 use Rattle.closing.proofs.close.Reads as close-reads
 use Rattle.report.proofs.put_refused.Reads as put-refused-reads
 use Rattle.report.proofs.write_report.Reads as write-report-reads

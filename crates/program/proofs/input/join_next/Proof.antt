@@ -2,8 +2,8 @@
 use native.Mathlib.Omega.{arith}
 use lib.ListN.{length-take}
 use borrow.Author.Needs.{needs}
-use Rattle.close.proofs.input.join_next.Statement.{statement}
-use Rattle.close.proofs.input.join_next.Tie as tie
+use Rattle.program.proofs.input.join_next.Statement.{statement}
+use Rattle.program.proofs.input.join_next.Tie as tie
 
 slice-aggregate-read-sheet : tie.Need-slice-aggregate-read-sheet
 slice-aggregate-read-sheet c = search needs

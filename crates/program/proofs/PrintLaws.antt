@@ -29,7 +29,7 @@ use Rattle.forms.proofs.SheetPlaces.{sheet-sound}
 use Rattle.closing.proofs.VerdictLaws.{verdicts-length}
 use Rattle.report.specs.Report.{Put, report, refusedText, verdictsIn}
 use Rattle.report.proofs.VerdictLaws.{Small, verdicts-at, verdict-small}
-use Rattle.close.specs.Printed.{textOf, closedText}
+use Rattle.program.specs.Printed.{textOf, closedText}
 
 -- ---- what was read is the value that the bytes are
 

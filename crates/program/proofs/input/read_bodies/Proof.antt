@@ -2,8 +2,8 @@
 use native.Mathlib.Omega.{arith}
 use lib.ListN.{length-take}
 use borrow.Author.Needs.{needs}
-use Rattle.close.proofs.input.read_bodies.Statement.{statement}
-use Rattle.close.proofs.input.read_bodies.Tie as tie
+use Rattle.program.proofs.input.read_bodies.Statement.{statement}
+use Rattle.program.proofs.input.read_bodies.Tie as tie
 
 slice-reshare-prefix-contents-length : tie.Need-slice-reshare-prefix-contents-length
 slice-reshare-prefix-contents-length c = search needs

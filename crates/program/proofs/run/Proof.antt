@@ -2,8 +2,8 @@
 use native.Mathlib.Omega.{arith}
 use lib.ListN.{length-take}
 use borrow.Author.Needs.{needs}
-use Rattle.close.proofs.run.Statement.{statement}
-use Rattle.close.proofs.run.Tie as tie
+use Rattle.program.proofs.run.Statement.{statement}
+use Rattle.program.proofs.run.Tie as tie
 
 slice-aggregate-read-register : tie.Need-slice-aggregate-read-register
 slice-aggregate-read-register c = search needs
@@ -23,11 +23,11 @@ same-length c = search needs
 returns : tie.Need-returns
 returns c = search needs
 
-slice-aggregate-gather : tie.Need-slice-aggregate-gather
-slice-aggregate-gather c = search needs
+slice-aggregate-read-sheets : tie.Need-slice-aggregate-read-sheets
+slice-aggregate-read-sheets c = search needs
 
-gather-requires : tie.Need-gather-requires
-gather-requires c κs = search needs
+read-sheets-requires : tie.Need-read-sheets-requires
+read-sheets-requires c κs = search needs
 
 put-refused-requires-2 : tie.Need-put-refused-requires-2
 put-refused-requires-2 c κs = search needs
@@ -69,8 +69,8 @@ run-spec =
     put-refused-requires
     same-length
     returns
-    slice-aggregate-gather
-    gather-requires
+    slice-aggregate-read-sheets
+    read-sheets-requires
     put-refused-requires-2
     same-length-2
     returns-2

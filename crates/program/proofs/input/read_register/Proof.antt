@@ -2,8 +2,8 @@
 use native.Mathlib.Omega.{arith}
 use lib.ListN.{length-take}
 use borrow.Author.Needs.{needs}
-use Rattle.close.proofs.input.read_register.Statement.{statement}
-use Rattle.close.proofs.input.read_register.Tie as tie
+use Rattle.program.proofs.input.read_register.Statement.{statement}
+use Rattle.program.proofs.input.read_register.Tie as tie
 
 fill-requires : tie.Need-fill-requires
 fill-requires c κs = search needs
