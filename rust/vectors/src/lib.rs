@@ -1,0 +1,66 @@
+//! The case files of `crates/trials`, and what the program must print of them.
+//!
+//! All is computed by `paper`, document 01 in plain Rust, and nothing by the proved library: so what the program is held to is
+//! the independent implementation. `cargo run -p vectors` writes the files; a test fails where they are not what is made here.
+//!
+//! # The layout of a case
+//!
+//! A case file is cases, one behind the other. A case is a head of 64 bytes and then its inputs; numbers are little-endian.
+//!
+//! | Bytes | What |
+//! |---|---|
+//! | 0 to 23 | the label, in ASCII, with spaces behind it |
+//! | 24 | the operation: 1 open, 2 put, 3 notice, 4 join, 5 close, 6 check, 7 check_reads; then three zero bytes |
+//! | 28 to 31 | epoch; of a check, the mode |
+//! | 32 to 35 | open: roster; put: sen; notice: master; check: lsn |
+//! | 36 to 43 | put: csn; notice: count |
+//! | 44 to 47 | length of the first input: the sheet; of closing and checking, the register |
+//! | 48 to 51 | length of the second: put: the records; join and close: the sheet; check: the keys, 4 bytes each |
+//! | 52 to 55 | length of the third: check: the csns, 8 bytes each |
+//! | 56 to 59 | room of the output buffer |
+//! | 60 to 63 | room of closing's second buffer, for the verdicts |
+//!
+//! Of each case the program prints a line: the label, then `wrote N` and the bytes, `refused N`, `pass` or `fails INDEX KEY
+//! REASON`. Bytes are printed in hexadecimal, but of more than 320 only `sum S`: the bytes as one number, the first leading,
+//! modulo the prime 2^55 − 55. Where a byte behind the written ones has changed, `and more` follows.
+
+mod book;
+mod examples;
+mod forms;
+mod refused;
+
+pub use book::Book;
+
+use std::path::{Path, PathBuf};
+
+/// All case files, in the order in which the program opens them.
+pub fn books() -> Vec<Book> {
+    let mut all = examples::books();
+    all.extend(refused::books());
+    all
+}
+
+/// The repository's top.
+pub fn repository() -> PathBuf {
+    Path::new(env!("CARGO_MANIFEST_DIR")).join("../..")
+}
+
+pub fn crate_dir(name: &str) -> PathBuf {
+    repository().join("crates").join(name)
+}
+
+/// A program's files: `args` and `data/` that it is run on, `stdout` that it is held to.
+fn program_files(name: &str, inputs: Vec<(&str, Vec<u8>, String)>) -> Vec<(PathBuf, Vec<u8>)> {
+    let dir = crate_dir(name);
+    let args: String = inputs.iter().map(|(name, _, _)| format!("{name}\n")).collect();
+    let text: String = inputs.iter().map(|(_, _, text)| text.as_str()).collect();
+    let mut files = vec![(dir.join("args"), args.into_bytes()), (dir.join("stdout"), text.into_bytes())];
+    files.extend(inputs.into_iter().map(|(name, data, _)| (dir.join("data").join(name), data)));
+    files
+}
+
+/// Every file that is made, with its bytes.
+pub fn files() -> Vec<(PathBuf, Vec<u8>)> {
+    let cases = books().into_iter().map(|b| (b.name, b.data, b.lines)).collect();
+    program_files("trials", cases)
+}
