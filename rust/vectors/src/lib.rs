@@ -1,6 +1,6 @@
-//! The case files of `crates/trials`, and what the program must print of them.
+//! The case files of `crates/trials` and the inputs of `crates/lessons`, and what the two programs must print of them.
 //!
-//! All is computed by `paper`, document 01 in plain Rust, and nothing by the proved library: so what the program is held to is
+//! All is computed by `paper`, document 01 in plain Rust, and nothing by the proved library: so what the programs are held to is
 //! the independent implementation. `cargo run -p vectors` writes the files; a test fails where they are not what is made here.
 //!
 //! # The layout of a case
@@ -27,9 +27,11 @@
 mod book;
 mod examples;
 mod forms;
+mod lessons;
 mod refused;
 
 pub use book::Book;
+pub use lessons::{lessons, Lesson};
 
 use std::path::{Path, PathBuf};
 
@@ -49,18 +51,19 @@ pub fn crate_dir(name: &str) -> PathBuf {
     repository().join("crates").join(name)
 }
 
-/// A program's files: `args` and `data/` that it is run on, `stdout` that it is held to.
+/// A program's files: `data/` that it opens, and `stdout` that it is held to.
 fn program_files(name: &str, inputs: Vec<(&str, Vec<u8>, String)>) -> Vec<(PathBuf, Vec<u8>)> {
     let dir = crate_dir(name);
-    let args: String = inputs.iter().map(|(name, _, _)| format!("{name}\n")).collect();
     let text: String = inputs.iter().map(|(_, _, text)| text.as_str()).collect();
-    let mut files = vec![(dir.join("args"), args.into_bytes()), (dir.join("stdout"), text.into_bytes())];
-    files.extend(inputs.into_iter().map(|(name, data, _)| (dir.join("data").join(name), data)));
-    files
+    let data = inputs.into_iter().map(|(name, data, _)| (dir.join("data").join(name), data));
+    data.chain([(dir.join("stdout"), text.into_bytes())]).collect()
 }
 
-/// Every file that is made, with its bytes.
+/// Every file that is made, with its bytes. `trials` is told its files by its arguments.
 pub fn files() -> Vec<(PathBuf, Vec<u8>)> {
     let cases = books().into_iter().map(|b| (b.name, b.data, b.lines)).collect();
-    program_files("trials", cases)
+    let names: String = books().iter().map(|b| format!("{}\n", b.name)).collect();
+    let inputs = lessons().into_iter().map(|l| (l.name, l.input, format!("{}:\n{}", l.name, l.text))).collect();
+    let args = (crate_dir("trials").join("args"), names.into_bytes());
+    [program_files("trials", cases), vec![args], program_files("lessons", inputs)].concat()
 }
