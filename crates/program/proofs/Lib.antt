@@ -1,2 +1,3 @@
 pub mod PrintLaws
-pub mod JoinsLaws
+pub mod JoinLaws
+pub mod ReadLaws

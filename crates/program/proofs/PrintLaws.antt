@@ -46,7 +46,7 @@ register-is : (b : Bytes) (g : Register) → readRegister b ≡ some g → (isRe
 unfolding readRegister isRegister
 register-is b g p = read-is registerIn soundRegister registerBytes b g p
 
-sheet-is : (b : Bytes) (s : Sheet) → readSheet b ≡ some s → (isSheet b ≡ true) × (sheetIn b ≡ s)
+pub sheet-is : (b : Bytes) (s : Sheet) → readSheet b ≡ some s → (isSheet b ≡ true) × (sheetIn b ≡ s)
 unfolding readSheet isSheet
 sheet-is b s p = read-is sheetIn soundSheet sheetBytes b s p
 
@@ -99,11 +99,11 @@ pub record Written (r t a b : Bytes) (n : ℕ) : Type 0 where
   pub enough : 5 * length (sheetIn t .sets) ≤ length b
   pub text : report (registerIn (take n a)) (map csnOf (sheetIn t .sets)) (verdictsIn (length (sheetIn t .sets)) b 0) ≡ closedText r t
 
-over-long : (old new : Bytes) → length new ≤ length (over old new)
+pub over-long : (old new : Bytes) → length new ≤ length (over old new)
 unfolding over
 over-long old new = simp length-append (omega arith)
 
-over-front : (old new : Bytes) (n : ℕ) → length new ≡ n → take n (over old new) ≡ new
+pub over-front : (old new : Bytes) (n : ℕ) → length new ≡ n → take n (over old new) ≡ new
 unfolding over
 over-front old new n e = take-at new (drop (length new) old) n e
 

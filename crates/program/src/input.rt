@@ -8,31 +8,20 @@ use rules::Answer;
 use rules::Refusal;
 use words::copy;
 ghost use mathlib.Core.Path.{_≡_};
-ghost use Prim.Native.Nat.{_≤_};
+ghost use mathlib.Core.Bool.{true};
+ghost use Prim.Native.Nat.{_≤_, _<_};
 ghost use lib.ListN.{length, take};
-ghost use Rattle.rules.specs.Refused.{joinOutcome};
-ghost use Rattle.rules.specs.Answers.{refusalNumber};
-ghost use Rattle.program.specs.Joins.{Joins};
+ghost use Rattle.rules.specs.Register.{isRegister};
+ghost use Rattle.rules.specs.Sheet.{isSheet};
+ghost use Rattle.rules.specs.Refused.{joinOutcome, sheetRoom};
+ghost use Rattle.rules.specs.Promises.{Promise};
+ghost use Rattle.program.specs.Reading.{Holds, CameIn, SheetsIn};
 
-// The length of a sheet that came, or 0 and the number of the refusal; both are 0 where the input had ended.
-pub struct Came {
-    pub len: usize,
-    pub refused: u32,
-}
-
-fn ended() -> Came
-    ensures { λ r. ⌜ r .len ≡ 0 ⌝ }
-{
-    Came { len: 0, refused: 0 }
-}
-
-fn refuse(x: Refusal) -> Came
-    ensures { λ r. ⌜ (r .len ≡ 0) × (r .refused ≡ refusalNumber x) ⌝ }
-{
-    Came {
-        len: 0,
-        refused: x.number(),
-    }
+// What came of a sheet: its length, the input's end before its first byte, or why it is refused.
+pub enum Came {
+    Sheet(usize),
+    Ended,
+    Refused(Refusal),
 }
 
 // Whether the input has all bytes of buf from `at` up to `end`.
@@ -45,7 +34,7 @@ fn fill(file: i32, buf: &mut [u8], at: usize, end: usize) -> bool
 // The length of the register that came, or 0 if none did.
 pub fn read_register(file: i32, buf: &mut [u8]) -> usize
     requires { ⌜ length (now buf) ≡ 28680 ⌝ }
-    ensures { λ r. ⌜ r ≤ 28680 ⌝ }
+    ensures { λ r. ⌜ (r ≤ 28680) × (0 < r → isRegister (take r (now (buf .exit))) ≡ true) ⌝ }
 {
     if !fill(file, buf, 0, 8) {
         return 0;
@@ -69,98 +58,111 @@ pub fn read_register(file: i32, buf: &mut [u8]) -> usize
 // The rest of a sheet whose head has come.
 fn read_bodies(file: i32, buf: &mut [u8]) -> Came
     requires { ⌜ length (now buf) ≡ 9240 ⌝ }
-    ensures { λ r. ⌜ r .len ≤ 9240 ⌝ }
+    ensures { λ r. ⌜ CameIn r (now (buf .exit)) ⌝ }
 {
     let end = contents_length(&buf[..24]);
     if end < 24 {
-        return refuse(Refusal::SheetIllFormed);
+        return Came::Refused(Refusal::SheetIllFormed);
     }
     if 9240 < end {
-        return refuse(Refusal::SheetIllFormed);
+        return Came::Refused(Refusal::SheetIllFormed);
     }
     if !fill(file, buf, 24, end) {
-        return refuse(Refusal::SheetIllFormed);
+        return Came::Refused(Refusal::SheetIllFormed);
     }
     let len = sheet_length(&buf[..end]);
     if len < end {
-        return refuse(Refusal::SheetIllFormed);
+        return Came::Refused(Refusal::SheetIllFormed);
     }
     if 9240 < len {
-        return refuse(Refusal::SheetIllFormed);
+        return Came::Refused(Refusal::SheetIllFormed);
     }
     if !fill(file, buf, end, len) {
-        return refuse(Refusal::SheetIllFormed);
+        return Came::Refused(Refusal::SheetIllFormed);
     }
     if !is_sheet(&buf[..len]) {
-        return refuse(Refusal::SheetIllFormed);
+        return Came::Refused(Refusal::SheetIllFormed);
     }
-    Came { len, refused: 0 }
+    Came::Sheet(len)
 }
 
 fn read_sheet(file: i32, buf: &mut [u8]) -> Came
     requires { ⌜ length (now buf) ≡ 9240 ⌝ }
-    ensures { λ r. ⌜ r .len ≤ 9240 ⌝ }
+    ensures { λ r. ⌜ CameIn r (now (buf .exit)) ⌝ }
 {
     let got = io::read_full(file, &mut buf[..24]);
     if got == 0 {
-        return ended();
+        return Came::Ended;
     }
     if got < 24 {
-        return refuse(Refusal::SheetIllFormed);
+        return Came::Refused(Refusal::SheetIllFormed);
     }
     read_bodies(file, buf)
 }
 
 // Another sheet joined to the one in the first n bytes, in its place.
-fn join_to(sheet: &mut [u8], n: usize, more: &[u8]) -> Came
-    requires { ⌜ (length (now sheet) ≡ 9240) × (n ≤ 9240) ⌝ }
-    ensures { λ r. ⌜ (Joins (joinOutcome (take n (now (sheet .entry))) (now (more .entry)) 9240) (now (sheet .entry)) (r .refused) (r .len) (now (sheet .exit))) × (r .len ≤ 9240) ⌝ }
+fn join_to(sheet: &mut [u8], n: usize, more: &[u8]) -> Answer
+    requires { ⌜ (length (now sheet) ≡ sheetRoom) × (n ≤ sheetRoom) ⌝ }
+    ensures { λ r. ⌜ Promise (joinOutcome (take n (now (sheet .entry))) (now (more .entry)) sheetRoom) (now (sheet .entry)) r (now (sheet .exit)) ⌝ }
 {
     let mut both = [0u8; 9240];
     match merge::join(&sheet[..n], more, &mut both) {
         Answer::Wrote(len) => {
             copy(&both, 0, len, sheet, 0);
-            Came { len, refused: 0 }
+            Answer::Wrote(len)
         }
-        Answer::Refused(x) => refuse(x),
+        Answer::Refused(x) => Answer::Refused(x),
     }
 }
 
-// The next sheet joined to the one in the first n bytes, or the end.
+// The next sheet joined to the one in the first n bytes, or the end, which changes nothing.
 fn join_next(file: i32, sheet: &mut [u8], n: usize) -> Came
-    requires { ⌜ (length (now sheet) ≡ 9240) × (n ≤ 9240) ⌝ }
-    ensures { λ r. ⌜ r .len ≤ 9240 ⌝ }
+    requires { ⌜ (length (now sheet) ≡ sheetRoom) × (n ≤ sheetRoom) ⌝ }
+    ensures { λ r. ⌜ (CameIn r (now (sheet .exit))) × (r ≡ Came.Ended → now (sheet .exit) ≡ now (sheet .entry)) ⌝ }
 {
     let mut more = [0u8; 9240];
-    let came = read_sheet(file, &mut more);
-    let m = came.len;
-    if m == 0 {
-        return came;
+    match read_sheet(file, &mut more) {
+        Came::Sheet(m) => match join_to(sheet, n, &more[..m]) {
+            Answer::Wrote(len) => Came::Sheet(len),
+            Answer::Refused(x) => Came::Refused(x),
+        },
+        Came::Ended => Came::Ended,
+        Came::Refused(x) => Came::Refused(x),
     }
-    join_to(sheet, n, &more[..m])
 }
 
-// All sheets joined. At most 65,536 are read, so that no input keeps the program for ever.
-pub fn read_sheets(file: i32, sheet: &mut [u8]) -> Came
-    requires { ⌜ length (now sheet) ≡ 9240 ⌝ }
-    ensures { λ r. ⌜ r .len ≤ 9240 ⌝ }
+// All further sheets joined to the first. At most 65,536 are read, so that no input keeps the program for ever.
+fn join_rest(file: i32, sheet: &mut [u8], first: usize) -> Answer
+    requires { ⌜ (length (now sheet) ≡ sheetRoom) × Holds isSheet (now sheet) first ⌝ }
+    ensures { λ r. ⌜ SheetsIn r (now (sheet .exit)) ⌝ }
 {
-    let first = read_sheet(file, sheet);
-    let mut n = first.len;
-    if n == 0 {
-        return refuse(Refusal::SheetIllFormed);
-    }
+    let mut n = first;
     let mut left: u32 = 65536;
     while 0 < left {
-        let came = join_next(file, sheet, n);
-        if came.refused != 0 {
-            return came;
+        match join_next(file, sheet, n) {
+            Came::Sheet(len) => {
+                n = len;
+            }
+            Came::Ended => {
+                return Answer::Wrote(n);
+            }
+            Came::Refused(x) => {
+                return Answer::Refused(x);
+            }
         }
-        if came.len == 0 {
-            return Came { len: n, refused: 0 };
-        }
-        n = came.len;
         left -= 1;
     }
-    refuse(Refusal::SheetIllFormed)
+    Answer::Refused(Refusal::SheetIllFormed)
+}
+
+// The sheet of all sheets joined; without one, the input ended too early.
+pub fn read_sheets(file: i32, sheet: &mut [u8]) -> Answer
+    requires { ⌜ length (now sheet) ≡ sheetRoom ⌝ }
+    ensures { λ r. ⌜ SheetsIn r (now (sheet .exit)) ⌝ }
+{
+    match read_sheet(file, sheet) {
+        Came::Sheet(n) => join_rest(file, sheet, n),
+        Came::Ended => Answer::Refused(Refusal::SheetIllFormed),
+        Came::Refused(x) => Answer::Refused(x),
+    }
 }

@@ -6,15 +6,17 @@ use closed::write_closed;
 use input::read_register;
 use input::read_sheets;
 use report::put_refused;
+use rules::Answer;
 use rules::Refusal;
 ghost use Prim.Native.Nat.{_≤_};
 ghost use lib.ListN.{length};
 ghost use Rattle.report.specs.Report.{reportRoom};
+ghost use Rattle.program.specs.Printed.{Ran};
 
 // The text of a run on an open file, at the start of out. The first refusal met is all that is printed.
 pub fn run(file: i32, out: &mut [u8]) -> usize
     requires { ⌜ reportRoom ≤ length (now out) ⌝ }
-    ensures { λ r. ⌜ r ≤ reportRoom ⌝ }
+    ensures { λ r. ⌜ (Ran (now (out .entry)) (now (out .exit)) r) × (r ≤ reportRoom) ⌝ }
 {
     let mut register = [0u8; 28680];
     let n = read_register(file, &mut register);
@@ -22,10 +24,8 @@ pub fn run(file: i32, out: &mut [u8]) -> usize
         return put_refused(out, 0, Refusal::RegisterIllFormed.number());
     }
     let mut sheet = [0u8; 9240];
-    let came = read_sheets(file, &mut sheet);
-    let len = came.len;
-    if len == 0 {
-        return put_refused(out, 0, came.refused);
+    match read_sheets(file, &mut sheet) {
+        Answer::Wrote(len) => write_closed(&register[..n], &sheet[..len], out),
+        Answer::Refused(x) => put_refused(out, 0, x.number()),
     }
-    write_closed(&register[..n], &sheet[..len], out)
 }

@@ -3,7 +3,7 @@ use native.Mathlib.Omega.{arith}
 use lib.ListN.{length-take}
 use mathlib.Core.Path.{ap}
 use Rattle.rules.specs.Refused.{joinOutcome}
-use Rattle.program.proofs.JoinsLaws.{fits-in, joined-in, not-joined, joins-as}
+use Rattle.program.proofs.JoinLaws.{fits-in, joined-in, not-joined, promise-as}
 use borrow.Author.Needs.{needs}
 use Rattle.program.proofs.input.join_to.Statement.{statement}
 use Rattle.program.proofs.input.join_to.Tie as tie
@@ -28,15 +28,11 @@ slice-aggregate-copy c = search needs
 
 copy-requires : tie.Need-copy-requires
 copy-requires c κs =
-    let j = c .before .before .before .before .before .before in
-    let f = fits-in _ _ (j .join .ensures) (c .before .before .before .len .given .1) in
+    let f = fits-in _ _ (c .before .before .before .before .before .before .join .ensures) (c .before .before .before .len .given .1) in
     (omega arith, omega arith)
 
 enum-known-x : tie.Need-enum-known-x
 enum-known-x c = search needs
-
-refuse-requires : tie.Need-refuse-requires
-refuse-requires c κs = search needs
 
 same-length : tie.Need-same-length
 same-length c = search needs
@@ -46,17 +42,13 @@ returns c =
     let w = c .before .before in
     let e = c .before .before .before .before .before .before .len .given .1 in
     let j = c .before .before .before .before .before .before .before .before .before in
-    let f = fits-in _ _ (j .join .ensures) e in
-    (joins-as (ap (joinOutcome _ _) (search needs)) (joined-in _ _ (omega arith) (j .join .ensures) e (w .copy .ensures)), omega arith)
+    promise-as (ap (joinOutcome _ _) (search needs)) (joined-in _ _ (search needs) (j .join .ensures) e (w .copy .ensures))
 
 same-length-2 : tie.Need-same-length-2
 same-length-2 c = search needs
 
 returns-2 : tie.Need-returns-2
-returns-2 c =
-    let j = c .before .before .before .before .before in
-    let r = c .refuse .ensures in
-    (joins-as (ap (joinOutcome _ _) (search needs)) (not-joined _ _ (j .join .ensures) (c .before .before .x .given .1) (r .1) (r .0)), omega arith)
+returns-2 c = promise-as (ap (joinOutcome _ _) (search needs)) (not-joined _ _ (c .before .before .before .before .join .ensures) (c .before .x .given .1))
 
 pub join-to-spec : {M : Type 1} → statement M
 join-to-spec =
@@ -70,7 +62,6 @@ join-to-spec =
     slice-aggregate-copy
     copy-requires
     enum-known-x
-    refuse-requires
     same-length
     returns
     same-length-2

@@ -1,6 +1,7 @@
 -- The head, then the rows that it tells of.
 use native.Mathlib.Omega.{arith}
 use lib.ListN.{length-take}
+use Rattle.laws.specs.Says.{said-yes}
 use borrow.Author.Needs.{needs}
 use Rattle.program.proofs.input.read_register.Statement.{statement}
 use Rattle.program.proofs.input.read_register.Tie as tie
@@ -12,7 +13,7 @@ same-length : tie.Need-same-length
 same-length c = search needs
 
 returns : tie.Need-returns
-returns c = search needs
+returns c = (omega arith, λ l. absurd (omega arith))
 
 slice-reshare-prefix-register-length : tie.Need-slice-reshare-prefix-register-length
 slice-reshare-prefix-register-length c = search needs
@@ -27,13 +28,13 @@ same-length-2 : tie.Need-same-length-2
 same-length-2 c = search needs
 
 returns-2 : tie.Need-returns-2
-returns-2 c = search needs
+returns-2 c = (omega arith, λ l. absurd (omega arith))
 
 same-length-3 : tie.Need-same-length-3
 same-length-3 c = search needs
 
 returns-3 : tie.Need-returns-3
-returns-3 c = search needs
+returns-3 c = (omega arith, λ l. absurd (omega arith))
 
 fill-requires-2 : tie.Need-fill-requires-2
 fill-requires-2 c κs = search needs
@@ -42,7 +43,7 @@ same-length-4 : tie.Need-same-length-4
 same-length-4 c = search needs
 
 returns-4 : tie.Need-returns-4
-returns-4 c = search needs
+returns-4 c = (omega arith, λ l. absurd (omega arith))
 
 slice-reshare-prefix-is-register : tie.Need-slice-reshare-prefix-is-register
 slice-reshare-prefix-is-register c = search needs
@@ -57,13 +58,13 @@ same-length-5 : tie.Need-same-length-5
 same-length-5 c = search needs
 
 returns-5 : tie.Need-returns-5
-returns-5 c = search needs
+returns-5 c = (omega arith, λ l. absurd (omega arith))
 
 same-length-6 : tie.Need-same-length-6
 same-length-6 c = search needs
 
 returns-6 : tie.Need-returns-6
-returns-6 c = search needs
+returns-6 c = (omega arith, λ l. said-yes (c .before .is-register .ensures) (c .if5 .left))
 
 pub read-register-spec : {M : Type 1} → statement M
 read-register-spec =

@@ -1,6 +1,7 @@
 -- The head, then the rest.
 use native.Mathlib.Omega.{arith}
 use lib.ListN.{length-take}
+use Rattle.program.specs.Reading.{sheet}
 use borrow.Author.Needs.{needs}
 use Rattle.program.proofs.input.read_sheet.Statement.{statement}
 use Rattle.program.proofs.input.read_sheet.Tie as tie
@@ -14,23 +15,17 @@ slice-aggregate-read-full c = simp length-take (omega arith)
 read-full-requires : tie.Need-read-full-requires
 read-full-requires c κs = search needs
 
-ended-requires : tie.Need-ended-requires
-ended-requires c κs = search needs
-
 same-length : tie.Need-same-length
 same-length c = search needs
 
 returns : tie.Need-returns
 returns c = search needs
 
-refuse-requires : tie.Need-refuse-requires
-refuse-requires c κs = search needs
-
 same-length-2 : tie.Need-same-length-2
 same-length-2 c = search needs
 
 returns-2 : tie.Need-returns-2
-returns-2 c = search needs
+returns-2 c = sheet
 
 read-bodies-requires : tie.Need-read-bodies-requires
 read-bodies-requires c κs = search needs
@@ -48,10 +43,8 @@ read-sheet-spec =
     slice-relend-prefix-read-full
     slice-aggregate-read-full
     read-full-requires
-    ended-requires
     same-length
     returns
-    refuse-requires
     same-length-2
     returns-2
     read-bodies-requires
