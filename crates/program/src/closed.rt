@@ -2,6 +2,8 @@
 use report::put_refused;
 use report::write_report;
 use rules::Closed;
+use rules::REGISTER_ROOM;
+use rules::VERDICT_ROOM;
 ghost use Prim.Native.Nat.{_≤_};
 ghost use lib.ListN.{length};
 ghost use Rattle.report.specs.Report.{Put, reportRoom};
@@ -12,8 +14,8 @@ pub fn write_closed(register: &[u8], sheet: &[u8], out: &mut [u8]) -> usize
     requires { ⌜ reportRoom ≤ length (now out) ⌝ }
     ensures { λ r. ⌜ (Put (closedText (now (register .entry)) (now (sheet .entry))) (now (out .entry)) 0 (now (out .exit)) r) × (r ≤ reportRoom) ⌝ }
 {
-    let mut next = [0u8; 28680];
-    let mut verdicts = [0u8; 320];
+    let mut next = [0u8; REGISTER_ROOM];
+    let mut verdicts = [0u8; VERDICT_ROOM];
     let answer = merge::close(register, sheet, &mut next, &mut verdicts);
     match answer {
         Closed::Wrote {

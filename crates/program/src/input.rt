@@ -5,7 +5,9 @@ use forms::is_sheet;
 use forms::register_length;
 use forms::sheet_length;
 use rules::Answer;
+use rules::REGISTER_ROOM;
 use rules::Refusal;
+use rules::SHEET_ROOM;
 use words::copy;
 ghost use mathlib.Core.Path.{_≡_};
 ghost use mathlib.Core.Bool.{true};
@@ -13,7 +15,7 @@ ghost use Prim.Native.Nat.{_≤_, _<_};
 ghost use lib.ListN.{length, take};
 ghost use Rattle.rules.specs.Register.{isRegister};
 ghost use Rattle.rules.specs.Sheet.{isSheet};
-ghost use Rattle.rules.specs.Refused.{joinOutcome, sheetRoom};
+ghost use Rattle.rules.specs.Refused.{joinOutcome, sheetRoom, registerRoom};
 ghost use Rattle.rules.specs.Promises.{Promise};
 ghost use Rattle.program.specs.Reading.{Holds, CameIn, SheetsIn};
 
@@ -24,6 +26,9 @@ pub enum Came {
     Refused(Refusal),
 }
 
+// How many sheets are joined to the first at most, so that no input keeps the program for ever.
+const MOST_SHEETS: u32 = 65536;
+
 // Whether the input has all bytes of buf from `at` up to `end`.
 fn fill(file: i32, buf: &mut [u8], at: usize, end: usize) -> bool
     requires { ⌜ (at ≤ end) × (end ≤ length (now buf)) ⌝ }
@@ -33,8 +38,8 @@ fn fill(file: i32, buf: &mut [u8], at: usize, end: usize) -> bool
 
 // The length of the register that came, or 0 if none did.
 pub fn read_register(file: i32, buf: &mut [u8]) -> usize
-    requires { ⌜ length (now buf) ≡ 28680 ⌝ }
-    ensures { λ r. ⌜ (r ≤ 28680) × (0 < r → isRegister (take r (now (buf .exit))) ≡ true) ⌝ }
+    requires { ⌜ length (now buf) ≡ registerRoom ⌝ }
+    ensures { λ r. ⌜ (r ≤ registerRoom) × (0 < r → isRegister (take r (now (buf .exit))) ≡ true) ⌝ }
 {
     if !fill(file, buf, 0, 8) {
         return 0;
@@ -43,7 +48,7 @@ pub fn read_register(file: i32, buf: &mut [u8]) -> usize
     if len < 8 {
         return 0;
     }
-    if 28680 < len {
+    if REGISTER_ROOM < len {
         return 0;
     }
     if !fill(file, buf, 8, len) {
@@ -57,14 +62,14 @@ pub fn read_register(file: i32, buf: &mut [u8]) -> usize
 
 // The rest of a sheet whose head has come.
 fn read_bodies(file: i32, buf: &mut [u8]) -> Came
-    requires { ⌜ length (now buf) ≡ 9240 ⌝ }
+    requires { ⌜ length (now buf) ≡ sheetRoom ⌝ }
     ensures { λ r. ⌜ CameIn r (now (buf .exit)) ⌝ }
 {
     let end = contents_length(&buf[..24]);
     if end < 24 {
         return Came::Refused(Refusal::SheetIllFormed);
     }
-    if 9240 < end {
+    if SHEET_ROOM < end {
         return Came::Refused(Refusal::SheetIllFormed);
     }
     if !fill(file, buf, 24, end) {
@@ -74,7 +79,7 @@ fn read_bodies(file: i32, buf: &mut [u8]) -> Came
     if len < end {
         return Came::Refused(Refusal::SheetIllFormed);
     }
-    if 9240 < len {
+    if SHEET_ROOM < len {
         return Came::Refused(Refusal::SheetIllFormed);
     }
     if !fill(file, buf, end, len) {
@@ -87,7 +92,7 @@ fn read_bodies(file: i32, buf: &mut [u8]) -> Came
 }
 
 fn read_sheet(file: i32, buf: &mut [u8]) -> Came
-    requires { ⌜ length (now buf) ≡ 9240 ⌝ }
+    requires { ⌜ length (now buf) ≡ sheetRoom ⌝ }
     ensures { λ r. ⌜ CameIn r (now (buf .exit)) ⌝ }
 {
     let got = io::read_full(file, &mut buf[..24]);
@@ -105,7 +110,7 @@ fn join_to(sheet: &mut [u8], n: usize, more: &[u8]) -> Answer
     requires { ⌜ (length (now sheet) ≡ sheetRoom) × (n ≤ sheetRoom) ⌝ }
     ensures { λ r. ⌜ Promise (joinOutcome (take n (now (sheet .entry))) (now (more .entry)) sheetRoom) (now (sheet .entry)) r (now (sheet .exit)) ⌝ }
 {
-    let mut both = [0u8; 9240];
+    let mut both = [0u8; SHEET_ROOM];
     match merge::join(&sheet[..n], more, &mut both) {
         Answer::Wrote(len) => {
             copy(&both, 0, len, sheet, 0);
@@ -120,7 +125,7 @@ fn join_next(file: i32, sheet: &mut [u8], n: usize) -> Came
     requires { ⌜ (length (now sheet) ≡ sheetRoom) × (n ≤ sheetRoom) ⌝ }
     ensures { λ r. ⌜ (CameIn r (now (sheet .exit))) × (r ≡ Came.Ended → now (sheet .exit) ≡ now (sheet .entry)) ⌝ }
 {
-    let mut more = [0u8; 9240];
+    let mut more = [0u8; SHEET_ROOM];
     match read_sheet(file, &mut more) {
         Came::Sheet(m) => match join_to(sheet, n, &more[..m]) {
             Answer::Wrote(len) => Came::Sheet(len),
@@ -131,13 +136,13 @@ fn join_next(file: i32, sheet: &mut [u8], n: usize) -> Came
     }
 }
 
-// All further sheets joined to the first. At most 65,536 are read, so that no input keeps the program for ever.
+// All further sheets joined to the first.
 fn join_rest(file: i32, sheet: &mut [u8], first: usize) -> Answer
     requires { ⌜ (length (now sheet) ≡ sheetRoom) × Holds isSheet (now sheet) first ⌝ }
     ensures { λ r. ⌜ SheetsIn r (now (sheet .exit)) ⌝ }
 {
     let mut n = first;
-    let mut left: u32 = 65536;
+    let mut left = MOST_SHEETS;
     while 0 < left {
         match join_next(file, sheet, n) {
             Came::Sheet(len) => {

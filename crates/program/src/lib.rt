@@ -7,7 +7,9 @@ use input::read_register;
 use input::read_sheets;
 use report::put_refused;
 use rules::Answer;
+use rules::REGISTER_ROOM;
 use rules::Refusal;
+use rules::SHEET_ROOM;
 ghost use Prim.Native.Nat.{_≤_};
 ghost use lib.ListN.{length};
 ghost use Rattle.report.specs.Report.{reportRoom};
@@ -18,12 +20,12 @@ pub fn run(file: i32, out: &mut [u8]) -> usize
     requires { ⌜ reportRoom ≤ length (now out) ⌝ }
     ensures { λ r. ⌜ (Ran (now (out .entry)) (now (out .exit)) r) × (r ≤ reportRoom) ⌝ }
 {
-    let mut register = [0u8; 28680];
+    let mut register = [0u8; REGISTER_ROOM];
     let n = read_register(file, &mut register);
     if n == 0 {
         return put_refused(out, 0, Refusal::RegisterIllFormed.number());
     }
-    let mut sheet = [0u8; 9240];
+    let mut sheet = [0u8; SHEET_ROOM];
     match read_sheets(file, &mut sheet) {
         Answer::Wrote(len) => write_closed(&register[..n], &sheet[..len], out),
         Answer::Refused(x) => put_refused(out, 0, x.number()),

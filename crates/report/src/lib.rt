@@ -4,4 +4,5 @@ mod report;
 mod text;
 
 pub use line::put_refused;
+pub use report::REPORT_ROOM;
 pub use report::write_report;

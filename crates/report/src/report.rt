@@ -18,6 +18,9 @@ ghost use Rattle.rules.specs.Register.{isRegister, registerIn};
 ghost use Rattle.rules.specs.Sheet.{isSheet, sheetIn, csnOf};
 ghost use Rattle.report.specs.Report.{Put, lineRoom, reportRoom, rowLine, setLines, verdictsIn, report};
 
+// No report is longer: a line, 64 sets and 1,024 rows.
+pub const REPORT_ROOM: usize = 121968;
+
 // A line for each set.
 fn put_set_lines(sheet: &[u8], verdicts: &[u8], out: &mut [u8], at: usize) -> usize
     requires { ⌜ (isSheet (now sheet) ≡ true) × (5 * length (sheetIn (now sheet) .sets) ≤ length (now verdicts)) × (at + lineRoom * length (sheetIn (now sheet) .sets) ≤ length (now out)) ⌝ }

@@ -1,6 +1,7 @@
 //! `cargo run --release -p bench`: medians of 100 runs, the proved library beside Rust in the same run, and the stack that it uses.
 //!
-//! Every buffer is cleared before each run, outside the timed part, and all inputs are built before the first run.
+//! Every buffer is cleared before each run, outside the timed part, and all inputs are built before the first run. Against `twin` the same
+//! algorithm is timed, against `paper` the independent implementation, which keeps maps and vectors.
 
 mod stack;
 mod twin;
@@ -9,14 +10,33 @@ use castorpedal as lib;
 use std::hint::black_box;
 use std::time::Instant;
 
+/// What the operations write into.
+struct Buffers {
+    out: Vec<u8>,
+    next: Vec<u8>,
+    verdicts: Vec<u8>,
+}
+
+impl Buffers {
+    fn new() -> Buffers {
+        Buffers { out: vec![0; lib::SHEET_ROOM], next: vec![0; lib::REGISTER_ROOM], verdicts: vec![0; lib::VERDICT_ROOM] }
+    }
+
+    fn clear(&mut self) {
+        self.out.fill(0);
+        self.next.fill(0);
+        self.verdicts.fill(0);
+    }
+}
+
 /// The median time of 100 runs, in nanoseconds; a run is `turns` calls, so that short ones can be timed.
-fn median(turns: u32, mut clear: impl FnMut(), mut call: impl FnMut()) -> f64 {
+fn median(turns: u32, buffers: &mut Buffers, mut call: impl FnMut(&mut Buffers)) -> f64 {
     let mut times: Vec<f64> = (0..100)
         .map(|_| {
-            clear();
+            buffers.clear();
             let start = Instant::now();
             for _ in 0..turns {
-                call();
+                call(buffers);
             }
             start.elapsed().as_nanos() as f64 / f64::from(turns)
         })
@@ -71,64 +91,58 @@ fn main() {
     let (odd, even) = (sheet((0..64).filter(|i| i % 2 == 1)), sheet((0..64).filter(|i| i % 2 == 0)));
     let most = sheet(0..63);
     let last = set(63);
-    let mut out = vec![0u8; lib::SHEET_ROOM];
-    let mut next = vec![0u8; lib::REGISTER_ROOM];
-    let mut verdicts = vec![0u8; lib::VERDICT_ROOM];
+    let (mut ours, mut theirs) = (Buffers::new(), Buffers::new());
 
     println!("{:<52} {:>13} {:>13} {:>7}", "median of 100 runs, buffers cleared first", "proved", "Rust", "ratio");
-    let ours = median(20, || (), || {
+    let t = median(20, &mut ours, |_| {
         black_box(lib::check(black_box(&register), 1, 0, &[], &[])).unwrap();
     });
-    line("examine a full register / twin", ours, median(20, || (), || {
+    line("examine a full register / twin", t, median(20, &mut theirs, |_| {
         assert!(twin::is_register(black_box(&register)));
     }));
     // Joining examines the first sheet and then refuses the second, which is no sheet.
-    let ours = median(20, || (), || {
-        assert!(lib::join(black_box(&full), black_box(&[]), &mut out) == Err(lib::Refusal::SheetIllFormed));
+    let t = median(20, &mut ours, |b| {
+        assert!(lib::join(black_box(&full), black_box(&[]), &mut b.out) == Err(lib::Refusal::SheetIllFormed));
     });
-    line("examine a full sheet (64 x 8) / twin", ours, median(20, || (), || {
+    line("examine a full sheet (64 x 8) / twin", t, median(20, &mut theirs, |_| {
         assert!(twin::is_sheet(black_box(&full)) && !twin::is_sheet(black_box(&[])));
     }));
-    let ours = median(20, || (), || {
-        black_box(lib::put(black_box(&most), 1, 1, 63 * 16 + 15, &last, &mut out)).unwrap();
+    let t = median(20, &mut ours, |b| {
+        black_box(lib::put(black_box(&most), 1, 1, 63 * 16 + 15, &last, &mut b.out)).unwrap();
     });
-    line("put the 64th set / paper", ours, median(20, || (), || {
+    line("put the 64th set / paper", t, median(20, &mut theirs, |_| {
         black_box(paper::put(black_box(&most), 1, 1, 63 * 16 + 15, &last, 9240)).unwrap();
     }));
-    out.fill(0);
-    let ours = median(20, || (), || {
-        black_box(lib::join(black_box(&odd), &even, &mut out)).unwrap();
+    for (what, a, b) in [("join two full sheets, 64 sets both hold / paper", &full, &full), ("join two sheets of 32 sets to a full one / paper", &odd, &even)] {
+        let t = median(20, &mut ours, |buffers| {
+            black_box(lib::join(black_box(a), b, &mut buffers.out)).unwrap();
+        });
+        line(what, t, median(20, &mut theirs, |_| {
+            black_box(paper::join(black_box(a), b, 9240)).unwrap();
+        }));
+    }
+    let t = median(1, &mut ours, |b| {
+        black_box(lib::close(black_box(&register), &full, &mut b.next, &mut b.verdicts)).unwrap();
     });
-    line("join two sheets of 32 sets to a full one / paper", ours, median(20, || (), || {
-        black_box(paper::join(black_box(&odd), &even, 9240)).unwrap();
+    line("close 64 x 8 over 1,024 rows / the same algorithm", t, median(1, &mut theirs, |b| {
+        twin::close(black_box(&register), &full, &mut b.next, &mut b.verdicts);
     }));
-    let ours = median(1, || (), || {
-        next.fill(0);
-        verdicts.fill(0);
-        black_box(lib::close(black_box(&register), &full, &mut next, &mut verdicts)).unwrap();
-    });
-    let (mut next2, mut verdicts2) = (vec![0u8; lib::REGISTER_ROOM], vec![0u8; lib::VERDICT_ROOM]);
-    line("close 64 x 8 over 1,024 rows / the same algorithm", ours, median(1, || (), || {
-        next2.fill(0);
-        verdicts2.fill(0);
-        twin::close(black_box(&register), &full, &mut next2, &mut verdicts2);
-    }));
-    assert!(next == next2 && verdicts == verdicts2, "both close alike");
-    line("close 64 x 8 over 1,024 rows / paper", ours, median(1, || (), || {
+    assert!(ours.next == theirs.next && ours.verdicts == theirs.verdicts, "both close alike");
+    line("close 64 x 8 over 1,024 rows / paper", t, median(1, &mut theirs, |_| {
         black_box(paper::close(black_box(&register), &full, 28680, 320)).unwrap();
     }));
 
     println!();
     let used = stack::used(|| {
-        lib::join(&odd, &even, &mut out).unwrap();
+        lib::join(&odd, &even, &mut ours.out).unwrap();
     });
     println!("stack used at most by a join:  {used:>6} bytes");
     let used = stack::used(|| {
-        lib::put(&most, 1, 1, 63 * 16 + 15, &last, &mut out).unwrap();
+        lib::put(&most, 1, 1, 63 * 16 + 15, &last, &mut ours.out).unwrap();
     });
     println!("stack used at most by a put:   {used:>6} bytes");
     let used = stack::used(|| {
-        lib::close(&register, &full, &mut next, &mut verdicts).unwrap();
+        lib::close(&register, &full, &mut ours.next, &mut ours.verdicts).unwrap();
     });
     println!("stack used at most by a close: {used:>6} bytes");
 }

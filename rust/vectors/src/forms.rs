@@ -1,6 +1,6 @@
 //! Bytes of registers, records and entries, for the cases.
 
-use paper::{Mark, Register, Row};
+use paper::{Mark, Register, Row, SHEET_ROOM};
 
 /// The roster of the clerk's examples: masters 3 and 5.
 pub const ROSTER: u16 = 40;
@@ -34,6 +34,18 @@ pub fn insert(key: u32, value: u64) -> Vec<u8> {
 
 pub fn delete(key: u32) -> Vec<u8> {
     record(3, key, 0)
+}
+
+/// A sheet of sets, each csn and records with sen 1, and of notices, each master and count.
+pub fn sheet_of(epoch: u32, roster: u16, sets: &[(u64, &[Vec<u8>])], notices: &[(u8, u8)]) -> Vec<u8> {
+    let mut sheet = paper::open(epoch, roster, SHEET_ROOM).unwrap();
+    for (csn, records) in sets {
+        sheet = paper::put(&sheet, epoch, 1, *csn, &records.concat(), SHEET_ROOM).unwrap();
+    }
+    for (master, count) in notices {
+        sheet = paper::notice(&sheet, epoch, *master, *count, SHEET_ROOM).unwrap();
+    }
+    sheet
 }
 
 pub fn keys_bytes(keys: &[u32]) -> Vec<u8> {

@@ -1,7 +1,7 @@
 //! The inputs of the course's three lessons: a register and then sheets, as the closing program reads them.
 
-use crate::forms::{change, register_r, ROSTER};
-use paper::{Register, Sheet, REGISTER_ROOM, SHEET_ROOM, VERDICT_ROOM};
+use crate::closing::run;
+use crate::forms::{change, register_r, sheet_of, ROSTER};
 
 /// An input file and what the closing program prints of it.
 pub struct Lesson {
@@ -10,39 +10,14 @@ pub struct Lesson {
     pub text: String,
 }
 
-/// A depot's sheet of epoch 1: the sets and notices that it has. A set is csn, sen and records.
+/// A depot's sheet of epoch 1: the sets and notices that it has.
 fn sheet(sets: &[(u64, &[Vec<u8>])], notices: &[(u8, u8)]) -> Vec<u8> {
-    let mut sheet = paper::open(1, ROSTER, SHEET_ROOM).unwrap();
-    for (csn, records) in sets {
-        sheet = paper::put(&sheet, 1, 1, *csn, &records.concat(), SHEET_ROOM).unwrap();
-    }
-    for (master, count) in notices {
-        sheet = paper::notice(&sheet, 1, *master, *count, SHEET_ROOM).unwrap();
-    }
-    sheet
-}
-
-/// What the closing program prints of a register and a joined sheet.
-fn closed(register: &[u8], sheet: &[u8]) -> Result<String, u32> {
-    let closing = paper::close(register, sheet, REGISTER_ROOM, VERDICT_ROOM)?;
-    let next = Register::read(&closing.register).unwrap();
-    let mut text = format!("snapshot {} rows {}\n", next.snapshot, next.rows.len());
-    let sets = Sheet::read(sheet).unwrap().offers.unwrap().sets;
-    for (set, v) in sets.iter().zip(closing.verdicts.chunks(5)) {
-        let word = ["commit", "lost", "unfit"][usize::from(v[0]) - 1];
-        text += &format!("set {} {word} {}\n", set.csn, u32::from_le_bytes([v[1], v[2], v[3], v[4]]));
-    }
-    for (key, row) in &next.rows {
-        text += &format!("row {key} {} {} {} {}\n", row.value, row.mark.cen, row.mark.sen, row.mark.csn);
-    }
-    Ok(text)
+    sheet_of(1, ROSTER, sets, notices)
 }
 
 fn lesson(name: &'static str, sheets: &[Vec<u8>]) -> Lesson {
-    let register = register_r(0);
-    let joined = sheets[1..].iter().try_fold(sheets[0].clone(), |a, b| paper::join(&a, b, SHEET_ROOM));
-    let text = joined.and_then(|sheet| closed(&register, &sheet)).unwrap_or_else(|n| format!("refused {n}\n"));
-    Lesson { name, input: [register, sheets.concat()].concat(), text }
+    let input = [register_r(0), sheets.concat()].concat();
+    Lesson { name, text: run(&input), input }
 }
 
 pub fn lessons() -> Vec<Lesson> {
