@@ -27,7 +27,7 @@ fn show_each(bytes: &[u8]) {
     }
 }
 
-// The bytes as one number, the first leading, modulo the prime 2^55 − 55: no byte can change without it.
+// The bytes as one number, the first leading, modulo the prime 2^55 − 55: where one byte changes, so does it.
 fn sum(bytes: &[u8]) -> u64 {
     let mut s: u64 = 0;
     let mut i: usize = 0;
