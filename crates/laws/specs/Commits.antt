@@ -152,10 +152,11 @@ pub record Smallest (w : WriteSet) (P : Record → Type 0) (k : ℕ) : Type 0 wh
   pub smallest : (q : Record) → List·Memᴰ q w.records → P q → k ≤ q.key
   pub some-key : 1 ≤ k
 
--- a record that the register does not bear, and one whose key the set does not win
+-- a record that the register does not bear
 abbrev pub FoundWrong : Register → Record → Type 0
 FoundWrong g r = fitRecord g r ≡ false
 
+-- a record whose key the set does not win
 abbrev pub NotWon : Register → Sheet → WriteSet → Record → Type 0
 NotWon g s w r = wins g s w r.key ≡ false
 

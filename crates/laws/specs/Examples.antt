@@ -37,11 +37,13 @@ steps e (done b) (x ∷ xs) = steps e (step e b x) xs
 abbrev pub sheetAfter : ℕ → List Step → Outcome Bytes
 sheetAfter e xs = steps e (openOutcome e 40 sheetRoom) xs
 
+-- two outcomes joined; a refusal stays
 abbrev pub joinWith : Outcome Bytes → Outcome Bytes → Outcome Bytes
 joinWith (refused n) b = refused n
 joinWith (done a) (refused n) = refused n
 joinWith (done a) (done b) = joinOutcome a b sheetRoom
 
+-- the sheet of an outcome closed on a register; a refusal stays
 abbrev pub closeWith : Bytes → Outcome Bytes → Outcome Closing
 closeWith g (refused n) = refused n
 closeWith g (done b) = closeOutcome g b registerRoom verdictRoom
@@ -51,6 +53,7 @@ abbrev closeAgain : Outcome Bytes → Outcome Closing → Outcome Closing
 closeAgain s (refused n) = refused n
 closeAgain s (done c) = closeWith (c.register) s
 
+-- an entry of the table
 pub data Example : Type 0 where
   -- a register, and its bytes
   spells : Register → Bytes → Example
@@ -73,6 +76,7 @@ pub data Example : Type 0 where
   -- register, mode, lsn and entries; what the read check finds
   reads : Register → ℕ → ℕ → List Read → Finding → Example
 
+-- what an entry says of the operations
 abbrev pub Holds : Example → Type 0
 Holds (spells g b) = registerBytes g ≡ b
 Holds (gathers e xs b) = sheetAfter e xs ≡ done b
@@ -86,6 +90,7 @@ Holds (spoiling xs) = sheetAfter 1 xs ≡ done (sheetBytes (spoiledSheet 1 40))
 Holds (answers o n) = o ≡ refused n
 Holds (reads g mode lsn es a) = readsOutcome (registerBytes g) mode lsn es ≡ done a
 
+-- each entry holds
 abbrev pub AllHold : List Example → Type 0
 AllHold [] = Unit {0}
 AllHold (x ∷ xs) = Holds x × AllHold xs
@@ -148,6 +153,7 @@ F = put 3 1 (deleting 20 ∷ []) ∷ put 5 1 (changing 20 2 ∷ []) ∷ notice 3
 abbrev five : Register
 five = register 5 (row 10 1 5 1 3 ∷ [])
 
+-- THE TABLE
 abbrev pub table : List Example
 table =
     -- the bytes of the empty register, of R, and of A's sheet: head, contents, bodies

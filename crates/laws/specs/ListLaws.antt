@@ -12,6 +12,7 @@ use Rattle.laws.specs.Tests.{left, right, both, or→, or-left, or-right
 use Rattle.rules.specs.Lists.{_or_, if_then_else_, all, any, keep, first, flat, upFrom}
 
 module _ {A : Type 0} where
+  -- each element of the first list is one of the second
   abbrev pub Sub : List A → List A → Type 0
   Sub xs ys = (x : A) → List·Memᴰ x xs → List·Memᴰ x ys
 

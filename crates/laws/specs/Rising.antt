@@ -13,6 +13,7 @@ use Rattle.laws.specs.Tests.{left, right, both}
 use Rattle.laws.specs.ListLaws.{Sub, keep→}
 
 module _ {A : Type 0} (f : A → ℕ) where
+  -- each one's number is below all later ones'
   pub data Rising : List A → Type 0 where
     nil : Rising []
     cons : {x : A} {xs : List A} → ((y : A) → List·Memᴰ y xs → f x < f y) → Rising xs → Rising (x ∷ xs)
