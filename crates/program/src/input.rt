@@ -26,7 +26,7 @@ pub enum Came {
     Refused(Refusal),
 }
 
-// How many sheets are joined to the first at most, so that no input keeps the program for ever.
+// The most sheets that an input may have, so that none keeps the program for ever.
 const MOST_SHEETS: u32 = 65536;
 
 // Whether the input has all bytes of buf from `at` up to `end`.
