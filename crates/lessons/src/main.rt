@@ -1,5 +1,5 @@
-// The closing program on each file that its arguments name: the file's name, and what is printed of it. The files are the inputs of
-// docs/LESSONS.md, and then inputs that end early or are refused.
+// The closing program on the inputs of docs/LESSONS.md, and on inputs that end early or are refused: each file's name, and what is
+// printed of it.
 use report::REPORT_ROOM;
 
 fn run_file(name: &[u8]) {
@@ -16,15 +16,37 @@ fn run_file(name: &[u8]) {
     io::write_all(1, &out[..n]);
 }
 
-// The file that argument i names.
-fn run_argument(i: usize) {
-    let mut name = io::buffer();
-    let n = os::arg(i, &mut name);
-    run_file(&name[..n]);
+fn run_lessons() {
+    run_file(b"twice");
+    run_file(b"twice_for_two");
+    run_file(b"clash");
+    run_file(b"clash_turned");
+    run_file(b"claims");
+    run_file(b"claims_turned");
+    run_file(b"half_a_set");
+}
+
+// Each ends at the first refusal met: 1, then 2, then those of joining and of closing.
+fn run_refused() {
+    run_file(b"nothing");
+    run_file(b"register_cut_in_head");
+    run_file(b"register_cut");
+    run_file(b"register_of_1025_rows");
+    run_file(b"register_ill_formed");
+    run_file(b"no_sheet");
+    run_file(b"sheet_cut_in_head");
+    run_file(b"sheet_cut_in_contents");
+    run_file(b"sheet_cut_in_bodies");
+    run_file(b"sheet_of_65_sets");
+    run_file(b"sheet_ill_formed");
+    run_file(b"second_sheet_cut");
+    run_file(b"other_epoch");
+    run_file(b"other_roster");
+    run_file(b"register_of_another_epoch");
+    run_file(b"rows_1025");
 }
 
 fn main() {
-    for i in 1..os::arg_count() {
-        run_argument(i);
-    }
+    run_lessons();
+    run_refused();
 }

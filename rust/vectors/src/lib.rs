@@ -53,19 +53,20 @@ pub fn crate_dir(name: &str) -> PathBuf {
     repository().join("crates").join(name)
 }
 
-/// A program's files: `data/` that it opens, `args` that name them, and `stdout` that it is held to.
+/// A program's files: `data/` that it opens, and `stdout` that it is held to.
 fn program_files(name: &str, inputs: Vec<(&str, Vec<u8>, String)>) -> Vec<(PathBuf, Vec<u8>)> {
     let dir = crate_dir(name);
-    let args: String = inputs.iter().map(|(name, _, _)| format!("{name}\n")).collect();
     let text: String = inputs.iter().map(|(_, _, text)| text.as_str()).collect();
     let data = inputs.into_iter().map(|(name, data, _)| (dir.join("data").join(name), data));
-    data.chain([(dir.join("args"), args.into_bytes()), (dir.join("stdout"), text.into_bytes())]).collect()
+    data.chain([(dir.join("stdout"), text.into_bytes())]).collect()
 }
 
-/// Every file that is made, with its bytes.
+/// Every file that is made, with its bytes. `trials` is told its files by its arguments; `lessons` names them itself.
 pub fn files() -> Vec<(PathBuf, Vec<u8>)> {
     let cases = books().into_iter().map(|b| (b.name, b.data, b.lines)).collect();
+    let names: String = books().iter().map(|b| format!("{}\n", b.name)).collect();
+    let args = (crate_dir("trials").join("args"), names.into_bytes());
     let inputs = lessons().into_iter().chain(endings::endings());
     let inputs = inputs.map(|l| (l.name, l.input, format!("{}:\n{}", l.name, l.text))).collect();
-    [program_files("trials", cases), program_files("lessons", inputs)].concat()
+    [program_files("trials", cases), vec![args], program_files("lessons", inputs)].concat()
 }
