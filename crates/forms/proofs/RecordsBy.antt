@@ -2,21 +2,21 @@
 use Prim.Native.Nat.{ℕ, zero, suc, _+_, _*_, _/_, _%_, _-_, _≤_, _<_}
 use mathlib.Core.Path.{_≡_, refl, sym, ap, _∙_}
 use mathlib.Core.Bool.{Bool, true}
-use mathlib.Core.List.{List, [], _∷_, _++_, map, append-assoc, append-nil}
+use mathlib.Core.List.{[], _∷_, _++_, map, append-assoc, append-nil}
 use native.Mathlib.Omega.{arith}
 use borrow.Author.Tests.{lt-ltb, eq-eqb, ltb-true, eqb-true}
 use mir.Val.{Fits}
 use mir.Syntax.{w8}
-use lib.ListN.{length, getD, drop, length-append, drop-of-length-le}
+use lib.ListN.{length, getD, drop, drop-of-length-le}
 use lib.Dec.{leb}
 use Rattle.words.specs.Words.{Bytes, le, word}
 use Rattle.words.proofs.Laws.{word-fits}
-use Rattle.rules.specs.declared.row.Record.{Record}
 use Rattle.rules.specs.Lists.{_and_, all, flat, same, ascendFrom}
 use Rattle.rules.specs.Forms.{wellFormed}
 use Rattle.rules.specs.Sheet.{recordKey, isKind, soundValue, soundRecord, recordBytes, recordsBytes, recordIn, recordsIn, maxRecords, offeredRecords, soundRecords, areRecords}
 use Rattle.laws.specs.Tests.{left, right, both, same-tests}
 use Rattle.laws.specs.FormLaws.{→fits, same→}
+use Rattle.laws.specs.SheetLaws.{records-length, records-count}
 use Rattle.laws.specs.Says.{Says, is-lt, is-le, is-eq, itself, retold, _also_, _so_}
 use Rattle.forms.specs.SheetForm.{zeros, recordOk, bodyOk, recordsOk}
 use Rattle.forms.proofs.Written.{Octets, octets, and-assoc, and-true, byte-here, itself-here, word-here}
@@ -44,20 +44,6 @@ body-none (suc n) prev b at h = absurd (omega arith)
 pub zerosIn : ℕ → Bytes → ℕ → Bool
 zerosIn zero b at = true
 zerosIn (suc n) b at = zeros b at and zerosIn n b (at + 16)
-
-pub records-count : (n : ℕ) (b : Bytes) (at : ℕ) → length (recordsIn n b at) ≡ n
-unfolding recordsIn
-records-count zero b at = refl
-records-count (suc n) b at = ap suc (records-count n b (at + 16))
-
-record-length : (r : Record) → length (recordBytes r) ≡ 16
-unfolding recordBytes le
-record-length r = refl
-
-pub records-length : (rs : List Record) → length (recordsBytes rs) ≡ 16 * length rs
-unfolding recordsBytes flat
-records-length [] = refl
-records-length (r ∷ rs) = length-append (recordBytes r) (recordsBytes rs) ∙ omega (arith, record-length r, records-length rs)
 
 module _ (b : Bytes) (o : Octets b) where
   -- a record is written as the bytes that it was read from if these have the zeros

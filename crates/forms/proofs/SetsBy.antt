@@ -14,10 +14,11 @@ use Rattle.rules.specs.Numbers.{masterOf}
 use Rattle.rules.specs.Sheet.{WriteSet, csnOf, setsOf, soundRecords, soundSet, recordsBytes, recordsIn, contentsFrom, bodies, setsIn}
 use Rattle.laws.specs.Tests.{left, right, both}
 use Rattle.laws.specs.FormLaws.{→fits}
+use Rattle.laws.specs.SheetLaws.{records-length, records-count}
 use Rattle.laws.specs.Says.{Says}
 use Rattle.forms.specs.SheetForm.{countAt, entryOk, above, setOk, setsOk, csnsIn, setsBy}
 use Rattle.forms.proofs.Written.{Octets, and-assoc, word-here, value-here}
-use Rattle.forms.proofs.RecordsBy.{zerosIn, records-count, records-length, records-here, set-says}
+use Rattle.forms.proofs.RecordsBy.{zerosIn, records-here, set-says}
 
 -- how many records n sets have
 pub totalIn : ℕ → Bytes → ℕ → ℕ

@@ -1,6 +1,5 @@
 -- How long a sheet is, as a reader of a stream learns it: first from its head, then from its contents.
 use Prim.Native.Nat.{ℕ, zero, suc, _+_, _*_}
-use mathlib.Core.Bool.{Bool}
 use lib.ListN.{length, getD}
 use lib.Dec.{leb, eqb}
 use Rattle.words.specs.Words.{Bytes, word}
