@@ -21,8 +21,9 @@ use Rattle.laws.specs.Joining.{noticeTogether, together, joinHeld}
 use Rattle.forms.specs.SheetReadings.{noSet, total, entryBytes, startBytes}
 use Rattle.forms.proofs.SheetWritten.{total-more, contents-more, bodies-more, sheet-stored, sheet-over}
 use Rattle.forms.proofs.SheetPlaces.{sheet-sound, total-mono, sheet-length}
+use Rattle.gather.specs.declared.next.Entry.{Entry}
 use Rattle.gather.specs.declared.place.Place.{Place}
-use Rattle.gather.specs.Walk.{behind, nextAt, Both, At, Ahead, Advanced, Room}
+use Rattle.gather.specs.Walk.{behind, nextAt, Both, At, Ahead, Numbers, Advanced, Room}
 use Rattle.gather.specs.OneSheet.{Written}
 use Rattle.gather.proofs.Steps.{from}
 
@@ -96,9 +97,8 @@ pub as-long : (l₀ l₁ l₂ : Bytes) (k : ℕ) (ys : Bytes) → l₂ ≡ store
 as-long l₀ l₁ l₂ k ys q e = ap length q ∙ length-stored l₁ k ys ∙ e
 
 -- an entry of the numbers that were read
-pub entry-is : (w v : WriteSet) (csn sen first n t : ℕ) → csn ≡ w.csn → sen ≡ w.sen → n ≡ length w.records → first ≡ t → w ≡ v
-    → entryBytes csn sen first n ≡ entryBytes v.csn v.sen t (length v.records)
-entry-is w v csn sen first n t p q r f e =
+pub entry-is : (w v : WriteSet) (r : Entry) (first t : ℕ) → Numbers w r → first ≡ t → w ≡ v → entryBytes r.csn r.sen first r.count ≡ entryBytes v.csn v.sen t (length v.records)
+entry-is w v r first t p f e =
     cc (ap (λ (x : WriteSet). x.csn) e, ap (λ (x : WriteSet). x.sen) e, ap (λ (x : WriteSet). length x.records) e)
 
 -- at most 512 records, in at most 64 sets

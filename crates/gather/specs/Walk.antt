@@ -10,6 +10,7 @@ use Rattle.rules.specs.Gathering.{distinct, clash, someTwo}
 use Rattle.rules.specs.Refused.{sheetRoom}
 use Rattle.laws.specs.Joining.{together}
 use Rattle.forms.specs.SheetReadings.{noSet, setAt}
+use Rattle.gather.specs.declared.next.Entry.{Entry}
 use Rattle.gather.specs.declared.place.Place.{Place}
 
 -- the sets of both sheets behind a place, as they stand
@@ -49,6 +50,12 @@ BothLeft a b p = (p.i < length (sheetIn a .sets)) × (p.j < length (sheetIn b .s
 abbrev pub Taken : Bytes → Bytes → Place → Bool → Type 0
 Taken a b p true = (p.i < length (sheetIn a .sets)) × (nextAt (sheetIn a) (sheetIn b) p ≡ setAt (sheetIn a) p.i)
 Taken a b p false = (p.j < length (sheetIn b .sets)) × (nextAt (sheetIn a) (sheetIn b) p ≡ setAt (sheetIn b) p.j)
+
+-- an entry has a set's numbers
+pub record Numbers (w : WriteSet) (e : Entry) : Type 0 where
+  pub csn : e.csn ≡ w.csn
+  pub sen : e.sen ≡ w.sen
+  pub count : e.count ≡ length w.records
 
 -- from one place to another the next set is passed, in each sheet that has it; unless the two sheets' sets clash here, no clash is passed
 pub record Advanced (a b : Bytes) (p q : Place) : Type 0 where

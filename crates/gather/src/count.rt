@@ -1,5 +1,5 @@
 // How many distinct sets two sheets hold together, of all masters and of one.
-use crate::next::next_csn;
+use crate::next::next_entry;
 use crate::place::Place;
 use crate::place::advance;
 use crate::place::more;
@@ -29,8 +29,8 @@ pub fn sets_of(a: &[u8], b: &[u8], m: usize) -> usize
     let mut n: usize = 0;
     let mut p = Place { i: 0, j: 0 };
     while more(a, b, p) {
-        let csn = next_csn(a, b, p);
-        if (csn % 16) as usize == m {
+        let entry = next_entry(a, b, p);
+        if (entry.csn % 16) as usize == m {
             n += 1;
         }
         p = advance(a, b, p);

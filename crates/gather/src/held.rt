@@ -1,8 +1,6 @@
 // The sheet that two sheets are joined to if nothing spoils it, written straight into the lent bytes: head, contents, bodies.
-use crate::next::next_count;
-use crate::next::next_csn;
+use crate::next::next_entry;
 use crate::next::next_records;
-use crate::next::next_sen;
 use crate::notices::notice_together;
 use crate::place::Place;
 use crate::place::advance;
@@ -44,11 +42,11 @@ fn put_contents(a: &[u8], b: &[u8], n: usize, out: &mut [u8]) -> usize
     let mut k: usize = 0;
     let mut first: usize = 0;
     while k < n {
-        let count = next_count(a, b, p);
-        put_entry(out, k, next_csn(a, b, p), next_sen(a, b, p), first, count);
+        let entry = next_entry(a, b, p);
+        put_entry(out, k, entry.csn, entry.sen, first, entry.count);
         p = advance(a, b, p);
         k += 1;
-        first += count;
+        first += entry.count;
     }
     first
 }
@@ -62,7 +60,7 @@ fn put_bodies<'a>(a: &'a [u8], b: &'a [u8], n: usize, out: &mut [u8])
     let mut first: usize = 0;
     while k < n {
         put_body(out, n, first, next_records(a, b, p));
-        first += next_count(a, b, p);
+        first += next_entry(a, b, p).count;
         p = advance(a, b, p);
         k += 1;
     }

@@ -7,9 +7,19 @@ use forms::set_count;
 use forms::set_csn;
 use forms::set_sen;
 ghost use mathlib.Core.Path.{_≡_};
+ghost use mathlib.Core.Bool.{true};
+ghost use Prim.Native.Nat.{_<_};
 ghost use lib.ListN.{length};
-ghost use Rattle.rules.specs.Sheet.{sheetIn, recordsBytes};
-ghost use Rattle.gather.specs.Walk.{nextAt, Ahead, Taken};
+ghost use Rattle.rules.specs.Sheet.{isSheet, sheetIn, recordsBytes};
+ghost use Rattle.forms.specs.SheetReadings.{setAt};
+ghost use Rattle.gather.specs.Walk.{nextAt, Ahead, Taken, Numbers};
+
+// What the contents say of a set: its numbers and how many records it has.
+pub struct Entry {
+    pub csn: u64,
+    pub sen: u32,
+    pub count: usize,
+}
 
 // The next set is taken from the first sheet: the second has none left, or the first's has the smaller csn.
 fn from_first(a: &[u8], b: &[u8], p: Place) -> bool
@@ -30,34 +40,26 @@ fn from_first(a: &[u8], b: &[u8], p: Place) -> bool
     false
 }
 
-pub fn next_csn(a: &[u8], b: &[u8], p: Place) -> u64
-    requires { ⌜ Ahead (now a) (now b) p ⌝ }
-    ensures { λ r. ⌜ r ≡ nextAt (sheetIn (now (a .entry))) (sheetIn (now (b .entry))) p .csn ⌝ }
+// The numbers of set i of one sheet.
+fn entry_at(s: &[u8], i: usize) -> Entry
+    requires { ⌜ (isSheet (now s) ≡ true) × (i < length (sheetIn (now s) .sets)) ⌝ }
+    ensures { λ r. ⌜ Numbers (setAt (sheetIn (now (s .entry))) i) r ⌝ }
 {
-    if from_first(a, b, p) {
-        return set_csn(a, p.i);
+    Entry {
+        csn: set_csn(s, i),
+        sen: set_sen(s, i),
+        count: record_count(s, i),
     }
-    set_csn(b, p.j)
 }
 
-pub fn next_sen(a: &[u8], b: &[u8], p: Place) -> u32
+pub fn next_entry(a: &[u8], b: &[u8], p: Place) -> Entry
     requires { ⌜ Ahead (now a) (now b) p ⌝ }
-    ensures { λ r. ⌜ r ≡ nextAt (sheetIn (now (a .entry))) (sheetIn (now (b .entry))) p .sen ⌝ }
+    ensures { λ r. ⌜ Numbers (nextAt (sheetIn (now (a .entry))) (sheetIn (now (b .entry))) p) r ⌝ }
 {
     if from_first(a, b, p) {
-        return set_sen(a, p.i);
+        return entry_at(a, p.i);
     }
-    set_sen(b, p.j)
-}
-
-pub fn next_count(a: &[u8], b: &[u8], p: Place) -> usize
-    requires { ⌜ Ahead (now a) (now b) p ⌝ }
-    ensures { λ r. ⌜ r ≡ length (nextAt (sheetIn (now (a .entry))) (sheetIn (now (b .entry))) p .records) ⌝ }
-{
-    if from_first(a, b, p) {
-        return record_count(a, p.i);
-    }
-    record_count(b, p.j)
+    entry_at(b, p.j)
 }
 
 // Where both sheets have a set, the forms hand back the body of the one with the smaller csn.

@@ -26,23 +26,23 @@ loop-holds c =
 more-requires : tie.Need-more-requires Inv-loop μ-loop
 more-requires c κs = c .loop .inv .0
 
-next-csn-requires : tie.Need-next-csn-requires Inv-loop μ-loop
-next-csn-requires c κs =
+next-entry-requires : tie.Need-next-entry-requires Inv-loop μ-loop
+next-entry-requires c κs =
     let l = c .before .before in
     let s = l .before .before .before in
     ahead (now (s .args .a)) (now (s .args .b)) (l .loop .p) _ (l .loop .inv .0) (c .before .more .ensures) (c .if1 .taken)
 
 add-n : tie.Need-add-n Inv-loop μ-loop
 add-n c =
-    let l = c .before .before .before .before in
+    let l = c .before .before .before .before .before in
     let s = l .before .before .before in
     omega (arith, l .loop .inv .1, together-few (now (s .args .a)) (now (s .args .b)) (s .pre), sets-le (s .args .m) (together (sheetIn (now (s .args .a))) (sheetIn (now (s .args .b)))))
 
 advance-requires : tie.Need-advance-requires Inv-loop μ-loop
 advance-requires c κs =
-    let l = c .before .before .before .before in
+    let l = c .before .before .before .before .before in
     let s = l .before .before .before in
-    ahead (now (s .args .a)) (now (s .args .b)) (l .loop .p) _ (l .loop .inv .0) (c .before .before .before .more .ensures) (c .before .before .if1 .taken)
+    ahead (now (s .args .a)) (now (s .args .b)) (l .loop .p) _ (l .loop .inv .0) (c .before .before .before .before .more .ensures) (c .before .before .before .if1 .taken)
 
 loop-less : tie.Need-loop-less Inv-loop μ-loop
 loop-less c = omega (arith, shorter (c .advance .ensures))
@@ -50,7 +50,7 @@ loop-less c = omega (arith, shorter (c .advance .ensures))
 loop-again : tie.Need-loop-again Inv-loop μ-loop
 loop-again c =
     let j = c .before in
-    let l = c .before .before .before .before .before in
+    let l = c .before .before .before .before .before .before in
     let s = l .before .before .before in
     let n = c .advance .ensures in (
       on n (l .loop .inv .0),
@@ -71,7 +71,7 @@ sets-of-spec =
     μ-loop
     loop-holds
     more-requires
-    next-csn-requires
+    next-entry-requires
     add-n
     advance-requires
     loop-less

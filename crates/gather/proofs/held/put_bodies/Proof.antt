@@ -44,21 +44,21 @@ put-body-requires c κs =
     let r = ap length (c .next-records .ensures) ∙ records-length (nextAt (sheetIn (now (s .args .a))) (sheetIn (now (s .args .b))) (l .loop .p) .records) in
     omega (arith, fits-next (now (s .args .a)) (now (s .args .b)) (l .loop .p) (l .loop .k) (l .loop .inv .0) (l .loop .inv .2) (omega arith) (omega arith), r)
 
-next-count-requires : tie.Need-next-count-requires Inv-loop μ-loop
-next-count-requires c κs =
+next-entry-requires : tie.Need-next-entry-requires Inv-loop μ-loop
+next-entry-requires c κs =
     let l = c .before .before .before .before .before .before in
     let s = l .before .before .before .before in
     still-ahead (now (s .args .a)) (now (s .args .b)) (l .loop .p) (l .loop .k) (l .loop .inv .0) (l .loop .inv .2) (omega arith)
 
 add-first : tie.Need-add-first Inv-loop μ-loop
 add-first c =
-    let l = c .before .before .before .before .before .before .before in
+    let l = c .before .before .before .before .before .before .before .before in
     let s = l .before .before .before .before in
     omega (arith, fits-next (now (s .args .a)) (now (s .args .b)) (l .loop .p) (l .loop .k) (l .loop .inv .0) (l .loop .inv .2) (omega arith) (omega arith))
 
 advance-requires : tie.Need-advance-requires Inv-loop μ-loop
 advance-requires c κs =
-    let l = c .before .before .before .before .before .before .before in
+    let l = c .before .before .before .before .before .before .before .before in
     let s = l .before .before .before .before in
     still-ahead (now (s .args .a)) (now (s .args .b)) (l .loop .p) (l .loop .k) (l .loop .inv .0) (l .loop .inv .2) (omega arith)
 
@@ -70,14 +70,15 @@ loop-less c = omega arith
 
 loop-again : tie.Need-loop-again Inv-loop μ-loop
 loop-again c =
-    let l = c .before .before .before .before .before .before .before .before in
+    let turn = c .before .before .before .before .before .before .before .before in
+    let l = turn .before in
     let s = l .before .before .before .before in
     let k = l .loop .k in
     let d = (together (sheetIn (now (s .args .a))) (sheetIn (now (s .args .b)))) in
-    let h : k < length d = omega arith in
-    let q = c .before .before .before .before .put-body .ensures in
+    let h : k < length d = omega (arith, turn .loop-test .taken, s .pre .count) in
+    let q = c .before .before .before .before .before .put-body .ensures in
     let at = 24 + 16 * s .args .n in
-    let body = c .before .before .before .before .before .next-records .ensures ∙ ap (λ (w : WriteSet). recordsBytes w.records) (next-is (now (s .args .a)) (now (s .args .b)) (l .loop .p) (l .loop .k) (l .loop .inv .0) (l .loop .inv .2) h) in
+    let body = c .before .before .before .before .before .before .next-records .ensures ∙ ap (λ (w : WriteSet). recordsBytes w.records) (next-is (now (s .args .a)) (now (s .args .b)) (l .loop .p) (l .loop .k) (l .loop .inv .0) (l .loop .inv .2) h) in
     let long : at + 16 * l .loop .first ≡ at + length (bodies (take k d)) = omega (arith, bodies-length (take k d)) in (
       on (c .advance .ensures) (l .loop .inv .0),
       omega arith,
@@ -106,7 +107,7 @@ put-bodies-spec =
     loop-holds
     next-records-requires
     put-body-requires
-    next-count-requires
+    next-entry-requires
     add-first
     advance-requires
     add-k

@@ -29,33 +29,21 @@ loop-holds c =
     let s = c .before .before .before in
     (start-at (now (s .args .a)) (now (s .args .b)) (s .pre .sheets), omega arith, start-behind (sheetIn (now (s .args .a))) (sheetIn (now (s .args .b))), unfold total in refl, refl, unfold contentsFrom in nothing-stored (now (s .args .out)) 24)
 
-next-count-requires : tie.Need-next-count-requires Inv-loop μ-loop
-next-count-requires c κs =
+next-entry-requires : tie.Need-next-entry-requires Inv-loop μ-loop
+next-entry-requires c κs =
     let l = c .before in
-    let s = l .before .before .before .before in
-    still-ahead (now (s .args .a)) (now (s .args .b)) (l .loop .p) (l .loop .k) (l .loop .inv .0) (l .loop .inv .2) (omega arith)
-
-next-csn-requires : tie.Need-next-csn-requires Inv-loop μ-loop
-next-csn-requires c κs =
-    let l = c .before .before .before in
-    let s = l .before .before .before .before in
-    still-ahead (now (s .args .a)) (now (s .args .b)) (l .loop .p) (l .loop .k) (l .loop .inv .0) (l .loop .inv .2) (omega arith)
-
-next-sen-requires : tie.Need-next-sen-requires Inv-loop μ-loop
-next-sen-requires c κs =
-    let l = c .before .before .before .before in
     let s = l .before .before .before .before in
     still-ahead (now (s .args .a)) (now (s .args .b)) (l .loop .p) (l .loop .k) (l .loop .inv .0) (l .loop .inv .2) (omega arith)
 
 put-entry-requires : tie.Need-put-entry-requires Inv-loop μ-loop
 put-entry-requires c κs =
-    let l = c .before .before .before .before .before in
+    let l = c .before .before .before in
     let s = l .before .before .before .before in
     omega (arith, fits-next (now (s .args .a)) (now (s .args .b)) (l .loop .p) (l .loop .k) (l .loop .inv .0) (l .loop .inv .2) (omega arith) (omega arith))
 
 advance-requires : tie.Need-advance-requires Inv-loop μ-loop
 advance-requires c κs =
-    let l = c .before .before .before .before .before .before .before .before in
+    let l = c .before .before .before .before .before .before in
     let s = l .before .before .before .before in
     still-ahead (now (s .args .a)) (now (s .args .b)) (l .loop .p) (l .loop .k) (l .loop .inv .0) (l .loop .inv .2) (omega arith)
 
@@ -64,7 +52,7 @@ add-k c = omega arith
 
 add-first : tie.Need-add-first Inv-loop μ-loop
 add-first c =
-    let l = c .before .before .before .before .before .before .before .before .before in
+    let l = c .before .before .before .before .before .before .before .before in
     let s = l .before .before .before .before in
     omega (arith, fits-next (now (s .args .a)) (now (s .args .b)) (l .loop .p) (l .loop .k) (l .loop .inv .0) (l .loop .inv .2) (omega arith) (omega arith))
 
@@ -73,18 +61,18 @@ loop-less c = omega arith
 
 loop-again : tie.Need-loop-again Inv-loop μ-loop
 loop-again c =
-    let l = c .before .before .before .before .before .before .before .before .before in
+    let l = c .before .before .before .before .before .before .before .before in
     let s = l .before .before .before .before in
     let k = l .loop .k in
     let d = (together (sheetIn (now (s .args .a))) (sheetIn (now (s .args .b)))) in
     let h : k < length d = omega arith in
-    let q = c .before .before .before .put-entry .ensures in
+    let q = c .before .before .before .before .put-entry .ensures in
     let w = nextAt (sheetIn (now (s .args .a))) (sheetIn (now (s .args .b))) (l .loop .p) in
-    let entry = entry-is w (getD d k noSet) _ _ _ _ _ (c .before .before .before .before .before .next-csn .ensures) (c .before .before .before .before .next-sen .ensures) (c .before .before .before .before .before .before .before .next-count .ensures) (l .loop .inv .3) (next-is (now (s .args .a)) (now (s .args .b)) (l .loop .p) (l .loop .k) (l .loop .inv .0) (l .loop .inv .2) h) in
+    let entry = entry-is w (getD d k noSet) _ _ _ (c .before .before .before .before .before .before .next-entry .ensures) (l .loop .inv .3) (next-is (now (s .args .a)) (now (s .args .b)) (l .loop .p) (l .loop .k) (l .loop .inv .0) (l .loop .inv .2) h) in
     let long : 24 + 16 * k ≡ 24 + length (contentsFrom 0 (take k d)) = omega (arith, contents-length 0 (take k d), take-few d k (omega arith)) in (
-      on (c .advance .ensures) (l .loop .inv .0),
+      on (c .before .advance .ensures) (l .loop .inv .0),
       omega arith,
-      behind-next (now (s .args .a)) (now (s .args .b)) (l .loop .p) (l .loop .k) (l .loop .inv .0) (l .loop .inv .2) h (c .advance .ensures),
+      behind-next (now (s .args .a)) (now (s .args .b)) (l .loop .p) (l .loop .k) (l .loop .inv .0) (l .loop .inv .2) h (c .before .advance .ensures),
       omega (arith, total-next d k h, count-is (now (s .args .a)) (now (s .args .b)) (l .loop .p) (l .loop .k) (l .loop .inv .0) (l .loop .inv .2) h),
       as-long (now (s .args .out)) _ _ _ _ q (l .loop .inv .4),
       one-more (now (s .args .out)) 24 (24 + 16 * k) (contentsFrom 0 (take k d)) _ _ (l .loop .inv .5) q long (contents-next d k h ∙ ap (λ (x : Bytes). contentsFrom 0 (take k d) ++ x) (sym entry)),
@@ -107,9 +95,7 @@ put-contents-spec =
     Inv-loop
     μ-loop
     loop-holds
-    next-count-requires
-    next-csn-requires
-    next-sen-requires
+    next-entry-requires
     put-entry-requires
     advance-requires
     add-k
