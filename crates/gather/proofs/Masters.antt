@@ -1,16 +1,20 @@
--- A loop over the sixteen masters that looks for one that passes a test.
+-- A loop over the sixteen masters that looks for one that passes a test, and what it finds of the reasons that spoil.
 use Prim.Native.Nat.{ℕ, _<_, _≤_}
 use mathlib.Core.Path.{_≡_, refl, sym, _∙_, ap}
 use mathlib.Core.Bool.{Bool, true, false, not, false≢true}
+use mathlib.Core.List.{List, [], _∷_, _++_}
 use native.Mathlib.Omega.{arith}
 use borrow.Author.Tests.{eq-eqb, ne-eqb, lt-leb, le-leb, ltb-true, ltb-false}
 use lib.Dec.{ltb, leb, eqb}
+use lib.ListN.{length}
 use Rattle.rules.specs.Lists.{_and_, _or_, any}
-use Rattle.rules.specs.Sheet.{Sheet, masters, setsOf, allows}
+use Rattle.rules.specs.Sheet.{Sheet, maxSets, masters, setsOf, allows}
+use Rattle.rules.specs.Gathering.{clash, someTwo}
 use Rattle.laws.specs.Tests.{not-true-false}
 use Rattle.laws.specs.ListLaws.{any→, →any, upFrom→, →upFrom}
-use Rattle.laws.specs.Joining.{noticeTogether, noticesDiffer, together, overAt}
+use Rattle.laws.specs.Joining.{noticeTogether, noticesDiffer, together, overAt, joinSpoils}
 use Rattle.forms.specs.SheetReadings.{noticeAt}
+use Rattle.gather.specs.Walk.{noticeSpoils}
 
 pub found : (f : ℕ → Bool) (m : ℕ) → m < 16 → f m ≡ true → true ≡ any f masters
 found f m h e = sym (→any f (→upFrom 0 16 (omega arith) h) e)
@@ -56,3 +60,23 @@ module _ (a b : Sheet) (m : ℕ) where
   pub some-noticed : (noticeTogether a b m ≡ 255 → ⊥) → ltb (noticeTogether a b m) (setsOf m (together a b)) ≡ overAt a b m
   unfolding overAt allows _or_
   some-noticed h = rw (ne-eqb _ _ h) (not-le (noticeTogether a b m) (setsOf m (together a b)))
+
+-- ---- both reasons of notices in one walk
+
+exchange : (p q r s : Bool) → (p or q) or (r or s) ≡ (p or r) or (q or s)
+unfolding _or_
+exchange true q r s = refl
+exchange false true true s = refl
+exchange false true false s = refl
+exchange false false r s = refl
+
+any-or : (f g : ℕ → Bool) (xs : List ℕ) → any (λ m. f m or g m) xs ≡ any f xs or any g xs
+unfolding any
+any-or f g [] = unfold _or_ in refl
+any-or f g (x ∷ xs) = ap (λ (t : Bool). (f x or g x) or t) (any-or f g xs) ∙ exchange (f x) (g x) (any f xs) (any g xs)
+
+pub spoils-by : (a b : Sheet) → joinSpoils a b ≡ (someTwo clash (a.sets ++ b.sets) or ltb maxSets (length (together a b))) or any (noticeSpoils a b) masters
+unfolding joinSpoils noticeSpoils
+spoils-by a b =
+    exchange _ _ _ _
+    ∙ ap (λ (t : Bool). (someTwo clash (a.sets ++ b.sets) or ltb maxSets (length (together a b))) or t) (sym (any-or (noticesDiffer a b) (overAt a b) masters))

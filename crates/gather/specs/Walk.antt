@@ -1,14 +1,15 @@
--- Two sheets walked together, set by set in csn order.
+-- Two sheets walked together, set by set in csn order, and master by master.
 use Prim.Native.Nat.{ℕ, _≤_, _<_}
 use mathlib.Core.Path.{_≡_}
 use mathlib.Core.Bool.{Bool, true, false}
 use mathlib.Core.List.{List, _∷_, _++_}
 use lib.ListN.{length, getD, drop}
 use Rattle.words.specs.Words.{Bytes}
+use Rattle.rules.specs.Lists.{_or_}
 use Rattle.rules.specs.Sheet.{WriteSet, Sheet, maxSets, isSheet, sheetIn}
 use Rattle.rules.specs.Gathering.{distinct, clash, someTwo}
 use Rattle.rules.specs.Refused.{sheetRoom}
-use Rattle.laws.specs.Joining.{together}
+use Rattle.laws.specs.Joining.{noticesDiffer, together, overAt}
 use Rattle.forms.specs.SheetReadings.{noSet, setAt}
 use Rattle.gather.specs.declared.next.Entry.{Entry}
 use Rattle.gather.specs.declared.place.Place.{Place}
@@ -24,6 +25,10 @@ behind a b p = distinct (unpassed a b p)
 -- the next of them
 unfoldable pub nextAt : Sheet → Sheet → Place → WriteSet
 nextAt a b p = getD (behind a b p) 0 noSet
+
+-- master m has two different notices, or more sets than its notice
+unfoldable pub noticeSpoils : Sheet → Sheet → ℕ → Bool
+noticeSpoils a b m = noticesDiffer a b m or overAt a b m
 
 -- two examined sheets
 pub record Both (a b : Bytes) : Type 0 where

@@ -7,7 +7,7 @@ ghost use Prim.Native.Nat.{_<_};
 ghost use Rattle.rules.specs.Lists.{any};
 ghost use Rattle.rules.specs.Sheet.{sheetIn, masters};
 ghost use Rattle.laws.specs.Joining.{noticeTogether, noticesDiffer, overAt};
-ghost use Rattle.gather.specs.Walk.{Both};
+ghost use Rattle.gather.specs.Walk.{noticeSpoils, Both};
 
 // The smaller one: no notice is the largest byte.
 pub fn notice_together(a: &[u8], b: &[u8], m: usize) -> u8
@@ -37,20 +37,6 @@ fn differ_at(a: &[u8], b: &[u8], m: usize) -> bool
     x != y
 }
 
-pub fn notices_differ(a: &[u8], b: &[u8]) -> bool
-    requires { ⌜ Both (now a) (now b) ⌝ }
-    ensures { λ r. ⌜ r ≡ any (noticesDiffer (sheetIn (now (a .entry))) (sheetIn (now (b .entry)))) masters ⌝ }
-{
-    let mut m: usize = 0;
-    while m < 16 {
-        if differ_at(a, b, m) {
-            return true;
-        }
-        m += 1;
-    }
-    false
-}
-
 fn over_at(a: &[u8], b: &[u8], m: usize) -> bool
     requires { ⌜ (Both (now a) (now b)) × (m < 16) ⌝ }
     ensures { λ r. ⌜ r ≡ overAt (sheetIn (now (a .entry))) (sheetIn (now (b .entry))) m ⌝ }
@@ -62,12 +48,16 @@ fn over_at(a: &[u8], b: &[u8], m: usize) -> bool
     (x as usize) < sets_of(a, b, m)
 }
 
-pub fn over_notice(a: &[u8], b: &[u8]) -> bool
+// One walk over the masters for both reasons.
+pub fn notices_spoil(a: &[u8], b: &[u8]) -> bool
     requires { ⌜ Both (now a) (now b) ⌝ }
-    ensures { λ r. ⌜ r ≡ any (overAt (sheetIn (now (a .entry))) (sheetIn (now (b .entry)))) masters ⌝ }
+    ensures { λ r. ⌜ r ≡ any (noticeSpoils (sheetIn (now (a .entry))) (sheetIn (now (b .entry)))) masters ⌝ }
 {
     let mut m: usize = 0;
     while m < 16 {
+        if differ_at(a, b, m) {
+            return true;
+        }
         if over_at(a, b, m) {
             return true;
         }

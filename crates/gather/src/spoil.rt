@@ -1,8 +1,7 @@
 // The four reasons for which two sheets spoil the sheet that they are joined to.
 use crate::clash::clashes;
 use crate::count::count;
-use crate::notices::notices_differ;
-use crate::notices::over_notice;
+use crate::notices::notices_spoil;
 use rules::MAX_SETS;
 ghost use mathlib.Core.Path.{_≡_};
 ghost use Rattle.rules.specs.Sheet.{sheetIn};
@@ -16,11 +15,8 @@ pub fn spoils(a: &[u8], b: &[u8]) -> bool
     if clashes(a, b) {
         return true;
     }
-    if notices_differ(a, b) {
-        return true;
-    }
     if MAX_SETS < count(a, b) {
         return true;
     }
-    over_notice(a, b)
+    notices_spoil(a, b)
 }
