@@ -7,6 +7,7 @@ pub mod Gathering
 pub mod Closing
 pub mod ReadCheck
 pub mod Refused
+pub mod Applies
 pub mod Answers
 pub mod Promises
 pub mod Settled
