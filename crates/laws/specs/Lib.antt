@@ -25,6 +25,7 @@ pub mod NotRefused
 pub mod Demand3
 pub mod Gatherers
 pub mod Closers
+pub mod ClosingWrites
 pub mod OneOffer
 pub mod Meets
 pub mod FirstFailing
