@@ -21,7 +21,7 @@ use Rattle.laws.specs.GatherLaws.{→set, notice→, →notice}
 use Rattle.laws.specs.GatherSound.{Fair, head-of, gathered-sound, spoiled-sound}
 
 -- what master m noticed in a sheet
-abbrev noted : Sheet → ℕ → ℕ
+abbrev pub noted : Sheet → ℕ → ℕ
 noted s m = getD s.notices m noNotice
 
 -- what master m noticed in two sheets together, where no two notices differ
@@ -86,7 +86,8 @@ no-sets s (m ∷ ms) = flat-append setIn (noticed s m) (flat (noticed s) ms) ∙
         go true = refl
         go false = refl
 
-sets-of : (s : Sheet) → setsAmong (offersOf s) ≡ s.sets
+-- the sets that a sheet offers
+pub sets-of : (s : Sheet) → setsAmong (offersOf s) ≡ s.sets
 unfolding setsAmong offersOf
 sets-of s =
     flat-append setIn (map aSet s.sets) (flat (noticed s) masters)
@@ -130,7 +131,8 @@ unfolding offersOf noticed
 →offered s m h k =
     →notice (Memᴰ·append-right (map aSet s.sets) (→flat (noticed s) (→upFrom 0 16 (omega arith) h) (rw (ne-eqb (noted s m) noNotice k) (List·Memᴰ·head refl))))
 
-noted-of : (s : Sheet) (m : ℕ) → m < 16 → noted s m ≤ noNotice → noticeOf m (noticesAmong (offersOf s)) ≡ noted s m
+-- what a master noticed in a sheet's offers
+pub noted-of : (s : Sheet) (m : ℕ) → m < 16 → noted s m ≤ noNotice → noticeOf m (noticesAmong (offersOf s)) ≡ noted s m
 noted-of s m h c =
     ⊎-elim
     (λ e. elim (ℕ-discrete (noted s m) noNotice) [
@@ -183,11 +185,12 @@ two-noted a b {x} {y} k l e d =
     (both (ap not (ne-eqb (noted b m) noNotice (λ c. q .2 (sym n ∙ c))))
     (ap not (ne-eqb (noted a m) (noted b m) (λ c. d (p .1 ∙ c ∙ n))))))
 
-differ→ : (x y : Notice) → differ x y ≡ true → (x.master ≡ y.master) × (x.number ≡ y.number → ⊥)
+pub differ→ : (x y : Notice) → differ x y ≡ true → (x.master ≡ y.master) × (x.number ≡ y.number → ⊥)
 unfolding differ
 differ→ x y e = (eqb-true x.master y.master (left _ _ e), eqb-false x.number y.number (not-true _ (right _ _ e)))
 
-one-noted : (s : Sheet) {x y : Notice} → List·Memᴰ x (noticesAmong (offersOf s)) → List·Memᴰ y (noticesAmong (offersOf s)) → x.master ≡ y.master → x.number ≡ y.number
+-- a sheet offers one notice a master
+pub one-noted : (s : Sheet) {x y : Notice} → List·Memᴰ x (noticesAmong (offersOf s)) → List·Memᴰ y (noticesAmong (offersOf s)) → x.master ≡ y.master → x.number ≡ y.number
 one-noted s k l e = offered→ s k .1 ∙ ap (noted s) e ∙ sym (offered→ s l .1)
 
 differs→ : (a b : Sheet) → someTwo differ (noticesAmong (offersOf a) ++ noticesAmong (offersOf b)) ≡ true → any (noticesDiffer a b) masters ≡ true
@@ -256,8 +259,8 @@ module _ (a b : Sheet) (p : soundSheet a ≡ true) (q : soundSheet b ≡ true) w
 
 -- ---- what is joined is sound
 
--- what a sound sheet holds is fair
-offers-fair : (s : Sheet) → soundSheet s ≡ true → Fair s.epoch s.roster (offersOf s)
+-- THE OFFERS OF A SOUND SHEET ARE FAIR
+pub offers-fair : (s : Sheet) → soundSheet s ≡ true → Fair s.epoch s.roster (offersOf s)
 offers-fair s e (aSet w) k = all→ (soundSet s.epoch s.roster) (soundSheet→ s e .sets) (rw (sets-of s) at (→set k))
 offers-fair s e (aNotice x) k =
     let r = offered→ s (→notice k) in

@@ -20,6 +20,7 @@ pub mod Merging
 pub mod GatherLaws
 pub mod GatherSound
 pub mod Joining
+pub mod OwnOffers
 pub mod Trees
 pub mod NotRefused
 pub mod Demand3

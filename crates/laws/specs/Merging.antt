@@ -91,6 +91,11 @@ next-left {x} {xs} p = first-distinct x (xs ++ []) (above-append x.csn (head-bel
 pub next-right : {y : WriteSet} {ys : List WriteSet} → Sorted (y ∷ ys) → distinct (y ∷ ys) ≡ y ∷ distinct ys
 next-right {y} {ys} q = first-distinct y ys (head-below q)
 
+-- so sets in csn order are their own distinct sets
+pub distinct-sorted : {ws : List WriteSet} → Sorted ws → distinct ws ≡ ws
+distinct-sorted nil = unfold distinct in refl
+distinct-sorted (cons {x = w} f s) = next-right (cons f s) ∙ ap (λ (l : List WriteSet). w ∷ l) (distinct-sorted s)
+
 -- ---- how many
 
 put-some : (w : WriteSet) (ws : List WriteSet) → 0 < length (putSet w ws)
