@@ -10,15 +10,15 @@ use lib.Dec.{eqb}
 use Rattle.words.specs.Words.{Bytes}
 use Rattle.rules.specs.Lists.{if_then_else_, any}
 use Rattle.rules.specs.Sheet.{Sheet, change, masters, setsOf, allows, recordsBytes, offeredRecords, sheetBytes, sheetIn}
-use Rattle.rules.specs.Gathering.{Offer, aSet, aNotice, setsAmong, noticesAmong, noticeOf, spoiledSheet, gathered, offersOf}
+use Rattle.rules.specs.Gathering.{Offer, aSet, aNotice, setsAmong, noticesAmong, noticeOf, spoiledSheet, offersOf}
 use Rattle.rules.specs.Refused.{Outcome, refused, done, sheetRoom, openOutcome, putOutcome, noticeOutcome, joinOutcome, runRefused}
 use Rattle.laws.specs.FormLaws.{→fits}
-use Rattle.laws.specs.Trees.{Tree, opened, put, notice, Gatherer, paper, ends, offersIn, epochOf, rosterOf, runTrees}
+use Rattle.laws.specs.Trees.{Tree, opened, put, notice, Gatherer, paper, ends, gatheredIn, runTrees}
 use Rattle.laws.specs.Demand3.{demand-3}
 
--- every tree that the paper does not refuse ends in the sheet of its offers
+-- every tree that the paper does not refuse ends in the sheet that Gathering defines from its offers
 abbrev pub Demand3 : Gatherer → Type 0
-Demand3 c = (t : Tree) (b : Bytes) → ends paper t ≡ done b → ends c t ≡ done (sheetBytes (gathered (epochOf t) (rosterOf t) (offersIn t)))
+Demand3 c = (t : Tree) (b : Bytes) → ends paper t ≡ done b → ends c t ≡ done (sheetBytes (gatheredIn t))
 
 -- THE OPERATIONS OF DOCUMENT 01 MEET IT
 pub paper-meets : Demand3 paper

@@ -21,6 +21,7 @@ pub mod GatherLaws
 pub mod GatherSound
 pub mod Joining
 pub mod OwnOffers
+pub mod GatheredFrom
 pub mod Trees
 pub mod NotRefused
 pub mod Demand3
