@@ -26,8 +26,8 @@ pub enum Came {
     Refused(Refusal),
 }
 
-// The most sheets that an input may have, so that none keeps the program for ever.
-const MOST_SHEETS: u32 = 65536;
+// A loop must be shown to end, so the sheets are counted down. An input of 2^64 sheets never comes, so none is refused for their number.
+const MOST_SHEETS: u64 = 18446744073709551615;
 
 // Whether the input has all bytes of buf from `at` up to `end`.
 fn fill(file: i32, buf: &mut [u8], at: usize, end: usize) -> bool

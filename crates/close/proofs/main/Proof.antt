@@ -20,8 +20,17 @@ slice-aggregate-write-all c = simp length-take (omega arith)
 write-all-requires : tie.Need-write-all-requires
 write-all-requires c κs = search needs
 
+slice-aggregate-write-all-2 : tie.Need-slice-aggregate-write-all-2
+slice-aggregate-write-all-2 c = search needs
+
+write-all-requires-2 : tie.Need-write-all-requires-2
+write-all-requires-2 c κs = search needs
+
 returns : tie.Need-returns
 returns c = search needs
+
+returns-2 : tie.Need-returns-2
+returns-2 c = search needs
 
 pub main-spec : {M : Type 1} → statement M
 main-spec =
@@ -32,4 +41,7 @@ main-spec =
     array-share-prefix-out
     slice-aggregate-write-all
     write-all-requires
-    returns)
+    slice-aggregate-write-all-2
+    write-all-requires-2
+    returns
+    returns-2)
