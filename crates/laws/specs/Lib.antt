@@ -24,6 +24,7 @@ pub mod OwnOffers
 pub mod GatheredFrom
 pub mod Trees
 pub mod NotRefused
+pub mod Exactly
 pub mod Demand3
 pub mod Gatherers
 pub mod Closers

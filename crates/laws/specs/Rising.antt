@@ -5,10 +5,11 @@ use mathlib.Core.Path.{_≡_, refl, sym, _∙_, ap, ap₂}
 use mathlib.Core.Logic.{⊎-elim}
 use mathlib.Core.Bool.{Bool, true, false}
 use mathlib.Core.List.{List, [], _∷_, _++_, map, List·Memᴰ, List·Memᴰ·head, List·Memᴰ·tail, List·Memᴰ·not-nil, List·Memᴰ·cases-cons, List·Memᴰ·append-cases, Memᴰ·cast}
+use mathlib.Core.Option.{some, Option·some-injective}
 use native.Mathlib.Omega.{arith}
 use borrow.Author.Tests.{ltb-true, lt-ltb}
 use lib.ListN.{length}
-use Rattle.rules.specs.Lists.{if_then_else_, keep, ascendFrom, ascend}
+use Rattle.rules.specs.Lists.{if_then_else_, keep, first, ascendFrom, ascend}
 use Rattle.laws.specs.Tests.{left, right, both}
 use Rattle.laws.specs.ListLaws.{Sub, keep→}
 
@@ -69,6 +70,18 @@ module _ {A : Type 0} (f : A → ℕ) where
       (λ p. ⊎-elim (λ q. p ∙ sym q) (λ b. absurd (not-equal z y (g y b) (ap f (sym p) ∙ c))) (List·Memᴰ·cases-cons k))
       (λ a. ⊎-elim (λ q. absurd (not-equal z x (g x a) (ap f (sym q) ∙ sym c))) (λ b. rising-one r a b c) (List·Memᴰ·cases-cons k))
       (List·Memᴰ·cases-cons m)
+
+  -- the first that passes has the smallest number of those that pass
+  pub rising-first : (p : A → Bool) {xs : List A} {x y : A} → Rising xs → first p xs ≡ some x → List·Memᴰ y xs → f y < f x → p y ≡ false
+  unfolding first
+  rising-first p nil e m l = absurd (List·Memᴰ·not-nil m)
+  rising-first p {x} {y} (cons {x = z} {xs = zs} g r) e m l = go (p z) refl e (λ d k. rising-first p r d k l)
+    where
+      go : (t : Bool) → p z ≡ t → (if t then some z else first p zs) ≡ some x → (first p zs ≡ some x → List·Memᴰ y zs → p y ≡ false) → p y ≡ false
+      go true q e below =
+          let w : z ≡ x = Option·some-injective z x e in
+          absurd (⊎-elim (λ c. not-below (c ∙ w) l) (λ k. no-loop z y (g y k) (equal (f y) x z l w)) (List·Memᴰ·cases-cons m))
+      go false q e below = ⊎-elim (λ c. ap p c ∙ q) (λ k. below e k) (List·Memᴰ·cases-cons m)
 
   -- what is above the head of one list, and in the other, is in the other's tail
   tails : {x y : A} {xs ys : List A} → x ≡ y → Above (f x) xs → Sub (x ∷ xs) (y ∷ ys) → Sub xs ys
