@@ -31,4 +31,6 @@ pub mod Closers
 pub mod ClosingWrites
 pub mod OneOffer
 pub mod Meets
+pub mod Kept
+pub mod Closers
 pub mod FirstFailing

@@ -45,7 +45,7 @@ same-refusal : (x y : Refusal) → refusalNumber x ≡ refusalNumber y → x ≡
 same-refusal x y e = sym (refusal-back x) ∙ ap refusalOf e ∙ refusal-back y
 
 -- no refusal has the number of a success
-refusal-some : (x : Refusal) → 0 ≡ refusalNumber x → ⊥
+pub refusal-some : (x : Refusal) → 0 ≡ refusalNumber x → ⊥
 refusal-some RegisterIllFormed e = omega arith
 refusal-some SheetIllFormed e = omega arith
 refusal-some OfferIllFormed e = omega arith
@@ -65,10 +65,11 @@ reason-back Gone = refl
 reason-back OtherCsn = refl
 reason-back TooNew = refl
 
-same-reason : (x y : Reason) → reasonNumber x ≡ reasonNumber y → x ≡ y
+pub same-reason : (x y : Reason) → reasonNumber x ≡ reasonNumber y → x ≡ y
 same-reason x y e = sym (reason-back x) ∙ ap reasonOf e ∙ reason-back y
 
-reason-some : (x : Reason) → 0 ≡ reasonNumber x → ⊥
+-- and no reason the 0 of a pass
+pub reason-some : (x : Reason) → 0 ≡ reasonNumber x → ⊥
 reason-some Gone e = omega arith
 reason-some OtherCsn e = omega arith
 reason-some TooNew e = omega arith
