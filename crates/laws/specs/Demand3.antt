@@ -14,13 +14,13 @@ use Rattle.rules.specs.Numbers.{masterOf}
 use Rattle.rules.specs.Lists.{_or_}
 use Rattle.rules.specs.Sheet.{Sheet, inRoster, soundSet, sheetBytes, sheetIn, isSheet, readSheet, offeredRecords}
 use Rattle.rules.specs.Gathering.{Offer, aSet, aNotice, spoils, spoiledSheet, gathered, withOffer, joined}
-use Rattle.rules.specs.Refused.{done, openOutcome, offeredSet, offeredNotice, offerTo, putOutcome, noticeOutcome, joinSheets, joinOutcome, closeOutcome}
+use Rattle.rules.specs.Refused.{done, sheetRoom, openOutcome, offeredSet, offeredNotice, offerTo, putOutcome, noticeOutcome, joinSheets, joinOutcome}
 use Rattle.laws.specs.Tests.{left, right, both, or-left, or-right}
 use Rattle.laws.specs.ListLaws.{Sub}
 use Rattle.laws.specs.SheetLaws.{read-written, written-read, sheet-read}
 use Rattle.laws.specs.GatherSound.{FairOffer, Fair, Head, head-of, one-fair, proper, gathered-none, spoiled-sound}
 use Rattle.laws.specs.Joining.{offers-fair}
-use Rattle.laws.specs.GatheredFrom.{gatheredFrom, from-epoch, from-roster, from-spoiled, from-sound, from-put, from-join, from-own, from-same, from-more}
+use Rattle.laws.specs.GatheredFrom.{gatheredFrom, from-epoch, from-roster, from-spoiled, from-sound, from-put, from-join, from-own, from-more}
 use Rattle.laws.specs.Trees.{Number, Tree, opened, put, notice, join, given, paper, andThen, ends, offersIn, epochOf, rosterOf, spoiledIn, allOpened, gatheredIn, Within, itself, under-put, under-notice, under-left, under-right}
 use Rattle.laws.specs.NotRefused.{done-same, then→, open→, offer→, setBy, set→, notice→, join→}
 
@@ -31,16 +31,16 @@ pub record Ended (t : Tree) (b : Bytes) : Type 0 where
   pub bytes : b ≡ sheetBytes (gatheredIn t)
 
 -- a gathered sheet's epoch and roster
-in-epoch : (t : Tree) → gatheredIn t .epoch ≡ epochOf t
+pub in-epoch : (t : Tree) → gatheredIn t .epoch ≡ epochOf t
 unfolding gatheredIn
 in-epoch t = from-epoch (spoiledIn t) (epochOf t) (rosterOf t) (offersIn t)
 
-in-roster : (t : Tree) → gatheredIn t .roster ≡ rosterOf t
+pub in-roster : (t : Tree) → gatheredIn t .roster ≡ rosterOf t
 unfolding gatheredIn
 in-roster t = from-roster (spoiledIn t) (epochOf t) (rosterOf t) (offersIn t)
 
 -- its bytes, read
-ended-read : (t : Tree) (b : Bytes) → Ended t b → readSheet b ≡ some (gatheredIn t)
+pub ended-read : (t : Tree) (b : Bytes) → Ended t b → readSheet b ≡ some (gatheredIn t)
 unfolding gatheredIn
 ended-read t b k = ap readSheet (k .bytes) ∙ read-written (gatheredIn t) (from-sound (spoiledIn t) (epochOf t) (rosterOf t) (offersIn t) (k .head) (k .fair))
 
@@ -56,11 +56,11 @@ unfolding gatheredIn
 with-one t o f = from-put (spoiledIn t) (epochOf t) (rosterOf t) (offersIn t) o (proper (epochOf t) (rosterOf t) (offersIn t) f)
 
 -- an offer that went in
-taken : (t : Tree) (s : Bytes) (o : Option Offer) (e m room : ℕ) (b : Bytes) → Ended t s → offerTo (readSheet s) o e m room ≡ done b
-    → (x : Offer) × (o ≡ some x) × (e ≡ epochOf t) × (inRoster (rosterOf t) m ≡ true) × (b ≡ sheetBytes (withOne t x))
+pub taken : (t : Tree) (s : Bytes) (o : Option Offer) (e m room : ℕ) (b : Bytes) → Ended t s → offerTo (readSheet s) o e m room ≡ done b
+    → (x : Offer) × (o ≡ some x) × (e ≡ epochOf t) × (inRoster (rosterOf t) m ≡ true) × (b ≡ sheetBytes (withOne t x)) × (sheetRoom ≤ room)
 taken t s o e m room b k p =
     let q = offer→ (gatheredIn t) o e m room b (sym (ap (λ (g : Option Sheet). offerTo g o e m room) (ended-read t s k)) ∙ p) in
-    (q .0, q .1, q .2 ∙ in-epoch t, sym (ap (λ (n : ℕ). inRoster n m) (in-roster t)) ∙ q .3, q .4 ∙ ap sheetBytes (with-one t (q .0) (k .fair)))
+    (q .0, q .1, q .2 ∙ in-epoch t, sym (ap (λ (n : ℕ). inRoster n m) (in-roster t)) ∙ q .3, q .4 ∙ ap sheetBytes (with-one t (q .0) (k .fair)), q .5)
 
 ended-put : (t : Tree) (e sen : ℕ) (csn : Number 8) (rs : Bytes) (room : ℕ) (s b : Bytes) → Ended t s → putOutcome s e sen csn.value rs room ≡ done b → Ended (put t e sen csn rs room) b
 unfolding putOutcome epochOf rosterOf offersIn spoiledIn gatheredIn soundSet
@@ -91,12 +91,12 @@ ended-notice t e m n room s b k p =
     }
 
 -- what is joined has one epoch and one roster
-agree : (t u : Tree) (room : ℕ) (x y b : Bytes) → Ended t x → Ended u y → joinOutcome x y room ≡ done b
-    → (epochOf t ≡ epochOf u) × (rosterOf t ≡ rosterOf u) × (b ≡ sheetBytes (joined (gatheredIn t) (gatheredIn u)))
+pub agree : (t u : Tree) (room : ℕ) (x y b : Bytes) → Ended t x → Ended u y → joinOutcome x y room ≡ done b
+    → (epochOf t ≡ epochOf u) × (rosterOf t ≡ rosterOf u) × (b ≡ sheetBytes (joined (gatheredIn t) (gatheredIn u))) × (sheetRoom ≤ room)
 unfolding joinOutcome
 agree t u room x y b k l p =
     let w = join→ (gatheredIn t) (gatheredIn u) room b (sym (ap₂ (λ (a c : Option Sheet). joinSheets a c room) (ended-read t x k) (ended-read u y l)) ∙ p) in
-    (sym (in-epoch t) ∙ w .0 ∙ in-epoch u, sym (in-roster t) ∙ w .1 ∙ in-roster u, w .2)
+    (sym (in-epoch t) ∙ w .0 ∙ in-epoch u, sym (in-roster t) ∙ w .1 ∙ in-roster u, w .2, w .3)
 
 -- and its offers are fair for these
 fair-for : (e r f q : ℕ) (os : List Offer) → e ≡ f → r ≡ q → Fair f q os → Fair e r os
@@ -164,24 +164,6 @@ opened-unspoiled (put t e sen csn b room) p = opened-unspoiled t p
 opened-unspoiled (notice t e m n room) p = opened-unspoiled t p
 opened-unspoiled (join t u room) p = ap₂ _or_ (opened-unspoiled t (left _ _ p)) (opened-unspoiled u (right _ _ p)) ∙ unfold _or_ in refl
 opened-unspoiled (given b g) p = absurd (false≢true p)
-
-same-gathered : (t u : Tree) → epochOf t ≡ epochOf u → rosterOf t ≡ rosterOf u → spoiledIn t ≡ spoiledIn u → Sub (offersIn t) (offersIn u) → Sub (offersIn u) (offersIn t)
-    → gatheredIn t ≡ gatheredIn u
-unfolding gatheredIn
-same-gathered t u c d h s v =
-    from-same (spoiledIn t) (epochOf t) (rosterOf t) (offersIn t) (offersIn u) s v
-    ∙ λ i. gatheredFrom (h i) (c i) (d i) (offersIn u)
-
--- so trees of one epoch, one roster and the same distinct offers end in the same bytes
-pub same-bytes : (t u : Tree) (a b : Bytes) → ends paper t ≡ done a → ends paper u ≡ done b
-    → epochOf t ≡ epochOf u → rosterOf t ≡ rosterOf u → spoiledIn t ≡ spoiledIn u → Sub (offersIn t) (offersIn u) → Sub (offersIn u) (offersIn t) → a ≡ b
-same-bytes t u a b p q c d h s v = demand-3 t a p ∙ ap sheetBytes (same-gathered t u c d h s v) ∙ sym (demand-3 u b q)
-
--- and close alike from one register, to the same verdicts and register or the same refusal
-pub same-closing : (t u : Tree) (a b : Bytes) → ends paper t ≡ done a → ends paper u ≡ done b
-    → epochOf t ≡ epochOf u → rosterOf t ≡ rosterOf u → spoiledIn t ≡ spoiledIn u → Sub (offersIn t) (offersIn u) → Sub (offersIn u) (offersIn t)
-    → (g : Bytes) (nextRoom room : ℕ) → closeOutcome g a nextRoom room ≡ closeOutcome g b nextRoom room
-same-closing t u a b p q c d h s v g nextRoom room = ap (λ (x : Bytes). closeOutcome g x nextRoom room) (same-bytes t u a b p q c d h s v)
 
 -- all sheets in a tree that is not refused have one epoch and one roster
 pub one-head : {u t : Tree} → Within u t → (b : Bytes) → ends paper t ≡ done b → (epochOf u ≡ epochOf t) × (rosterOf u ≡ rosterOf t)

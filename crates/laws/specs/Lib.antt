@@ -26,11 +26,13 @@ pub mod Trees
 pub mod NotRefused
 pub mod Exactly
 pub mod Demand3
+pub mod FairTrees
+pub mod NeverStuck
+pub mod SameBytes
 pub mod Gatherers
-pub mod Closers
-pub mod ClosingWrites
 pub mod OneOffer
 pub mod Meets
 pub mod Kept
 pub mod Closers
+pub mod ClosingWrites
 pub mod FirstFailing

@@ -1,11 +1,12 @@
--- What follows from an operation not being refused: what it was given is fair, and what it wrote is the sheet's bytes.
+-- What follows from an operation not being refused: what it was given is fair, the buffer is long enough, and what it wrote is the
+-- sheet's bytes. And that this is all that it takes (`→open`, `→offer`, `→join`).
 use Prim.Native.Nat.{ℕ, _≤_}
 use mathlib.Core.Path.{_≡_, refl, sym, _∙_, ap}
 use mathlib.Core.Bool.{Bool, true, false}
 use mathlib.Core.List.{List}
 use mathlib.Core.Option.{Option, none, some, Option·some-injective, Option·none-ne-some}
 use native.Mathlib.Omega.{arith}
-use borrow.Author.Tests.{leb-true, le-leb, eqb-true, eqb-false, not-false}
+use borrow.Author.Tests.{ltb-false, leb-true, le-leb, le-ltb, eqb-true, eqb-false, eq-eqb, ne-eqb, not-false}
 use lib.Dec.{ltb, leb, eqb}
 use Rattle.words.specs.Words.{Bytes}
 use Rattle.rules.specs.declared.row.Record.{Record}
@@ -40,27 +41,40 @@ then→ (done a) f b p = (a, refl, p)
 not-zero : (n : ℕ) → eqb n 0 ≡ false → leb 1 n ≡ true
 not-zero n p = let h = eqb-false n 0 p in le-leb 1 n (omega arith)
 
+is-some : (n : ℕ) → leb 1 n ≡ true → eqb n 0 ≡ false
+is-some n p = let h = leb-true 1 n p in ne-eqb n 0 (λ e. omega arith)
+
 -- what is opened
 
-pub open→ : (e r room : ℕ) (b : Bytes) → openOutcome e r room ≡ done b → (leb 1 e ≡ true) × (leb 1 r ≡ true) × (b ≡ sheetBytes (emptySheet e r))
+pub open→ : (e r room : ℕ) (b : Bytes) → openOutcome e r room ≡ done b
+    → (leb 1 e ≡ true) × (leb 1 r ≡ true) × (b ≡ sheetBytes (emptySheet e r)) × (sheetRoom ≤ room)
 unfolding openOutcome
 open→ e r room b p =
     let p₁ = passed _ _ _ _ p in
     let p₂ = passed _ _ _ _ (p₁ .1) in
     let p₃ = passed (ltb room sheetRoom) 9 _ b (p₂ .1) in
-    (not-zero e (p₁ .0), not-zero r (p₂ .0), sym (done-same (p₃ .1)))
+    (not-zero e (p₁ .0), not-zero r (p₂ .0), sym (done-same (p₃ .1)), ltb-false room sheetRoom (p₃ .0))
+
+pub →open : (e r room : ℕ) → leb 1 e ≡ true → leb 1 r ≡ true → sheetRoom ≤ room → openOutcome e r room ≡ done (sheetBytes (emptySheet e r))
+unfolding openOutcome
+→open e r room p q h = simp (is-some e p, is-some r q, le-ltb room sheetRoom h)
 
 -- what is offered
 
 pub offer→ : (s : Sheet) (o : Option Offer) (e m room : ℕ) (b : Bytes) → offerTo (some s) o e m room ≡ done b
-    → (x : Offer) × (o ≡ some x) × (e ≡ s.epoch) × (inRoster s.roster m ≡ true) × (b ≡ sheetBytes (withOffer s x))
+    → (x : Offer) × (o ≡ some x) × (e ≡ s.epoch) × (inRoster s.roster m ≡ true) × (b ≡ sheetBytes (withOffer s x)) × (sheetRoom ≤ room)
 unfolding offerTo
 offer→ s none e m room b p = absurd (refused-not p)
 offer→ s (some x) e m room b p =
     let p₁ = passed _ _ _ _ p in
     let p₂ = passed _ _ _ _ (p₁ .1) in
     let p₃ = passed (ltb room sheetRoom) 9 _ b (p₂ .1) in
-    (x, refl, eqb-true _ _ (not-false _ (p₁ .0)), not-false _ (p₂ .0), sym (done-same (p₃ .1)))
+    (x, refl, eqb-true _ _ (not-false _ (p₁ .0)), not-false _ (p₂ .0), sym (done-same (p₃ .1)), ltb-false room sheetRoom (p₃ .0))
+
+pub →offer : (s : Sheet) (x : Offer) (e m room : ℕ) → e ≡ s.epoch → inRoster s.roster m ≡ true → sheetRoom ≤ room
+    → offerTo (some s) (some x) e m room ≡ done (sheetBytes (withOffer s x))
+unfolding offerTo
+→offer s x e m room p q h = simp (eq-eqb e s.epoch p, q, le-ltb room sheetRoom h)
 
 -- what is read of record bytes is what they decode to, and sound
 records→ : (b : Bytes) (rs : List Record) → readRecords b ≡ some rs → (rs ≡ offeredRecords b) × (soundRecords rs ≡ true)
@@ -107,10 +121,14 @@ notice→ e m n o p = go (leb 1 e and leb m 15 and leb n maxSets) refl p
 -- what is joined
 
 pub join→ : (s t : Sheet) (room : ℕ) (b : Bytes) → joinSheets (some s) (some t) room ≡ done b
-    → (s.epoch ≡ t.epoch) × (s.roster ≡ t.roster) × (b ≡ sheetBytes (joined s t))
+    → (s.epoch ≡ t.epoch) × (s.roster ≡ t.roster) × (b ≡ sheetBytes (joined s t)) × (sheetRoom ≤ room)
 unfolding joinSheets
 join→ s t room b p =
     let p₁ = passed _ _ _ _ p in
     let p₂ = passed _ _ _ _ (p₁ .1) in
     let p₃ = passed (ltb room sheetRoom) 9 _ b (p₂ .1) in
-    (eqb-true _ _ (not-false _ (p₁ .0)), eqb-true _ _ (not-false _ (p₂ .0)), sym (done-same (p₃ .1)))
+    (eqb-true _ _ (not-false _ (p₁ .0)), eqb-true _ _ (not-false _ (p₂ .0)), sym (done-same (p₃ .1)), ltb-false room sheetRoom (p₃ .0))
+
+pub →join : (s t : Sheet) (room : ℕ) → s.epoch ≡ t.epoch → s.roster ≡ t.roster → sheetRoom ≤ room → joinSheets (some s) (some t) room ≡ done (sheetBytes (joined s t))
+unfolding joinSheets
+→join s t room p q h = simp (eq-eqb s.epoch t.epoch p, eq-eqb s.roster t.roster q, le-ltb room sheetRoom h)
