@@ -29,6 +29,7 @@ pub mod Demand3
 pub mod FairTrees
 pub mod NeverStuck
 pub mod SameBytes
+pub mod SameClosing
 pub mod Gatherers
 pub mod OneOffer
 pub mod Meets

@@ -4,7 +4,7 @@ use Prim.Native.Nat.{ℕ}
 use mathlib.Core.Path.{_≡_, sym, _∙_, ap}
 use Rattle.words.specs.Words.{Bytes}
 use Rattle.rules.specs.Sheet.{sheetBytes}
-use Rattle.rules.specs.Refused.{done, closeOutcome}
+use Rattle.rules.specs.Refused.{done}
 use Rattle.laws.specs.ListLaws.{Sub}
 use Rattle.laws.specs.GatherSound.{Head}
 use Rattle.laws.specs.GatheredFrom.{gatheredFrom, from-same}
@@ -35,9 +35,3 @@ same-bytes e r k t u f g h s v =
 pub same-ended : (t u : Tree) (a b : Bytes) → ends paper t ≡ done a → ends paper u ≡ done b
     → epochOf t ≡ epochOf u → rosterOf t ≡ rosterOf u → spoiledIn t ≡ spoiledIn u → Sub (offersIn t) (offersIn u) → Sub (offersIn u) (offersIn t) → a ≡ b
 same-ended t u a b p q c d h s v = demand-3 t a p ∙ ap sheetBytes (same-gathered t u c d h s v) ∙ sym (demand-3 u b q)
-
--- so they close alike from one register, to the same verdicts and register or the same refusal
-pub same-closing : (t u : Tree) (a b : Bytes) → ends paper t ≡ done a → ends paper u ≡ done b
-    → epochOf t ≡ epochOf u → rosterOf t ≡ rosterOf u → spoiledIn t ≡ spoiledIn u → Sub (offersIn t) (offersIn u) → Sub (offersIn u) (offersIn t)
-    → (g : Bytes) (nextRoom room : ℕ) → closeOutcome g a nextRoom room ≡ closeOutcome g b nextRoom room
-same-closing t u a b p q c d h s v g nextRoom room = ap (λ (x : Bytes). closeOutcome g x nextRoom room) (same-ended t u a b p q c d h s v)
