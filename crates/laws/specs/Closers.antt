@@ -1,30 +1,53 @@
--- DEMAND 2 asked of any closing: the verdicts and the next register of document 01's rule where nothing refuses, else the paper's refusal.
--- The paper's closing meets it, and three wrong versions do not, each on the examples that document 01 names.
-use Prim.Native.Nat.{ℕ, _+_, _≤_}
-use mathlib.Core.Path.{_≡_, refl, sym, _∙_, ap}
+-- DEMAND 2 asked of any closing, over what it answers and leaves in its buffers: the verdicts and the next register of document 01's rule
+-- where nothing refuses, else the smallest refusal that applies. It asks just what `close` promises, the paper's closing meets it, and three
+-- wrong versions do not, each on the examples that document 01 names.
+use Prim.Native.Nat.{ℕ, _+_, _≤_, _<_}
+use mathlib.Core.Path.{_≡_, refl, sym, subst, _∙_, ap}
 use mathlib.Core.Bool.{true, false, not}
 use mathlib.Core.List.{List, [], _∷_}
 use mathlib.Core.Option.{Option, none, some}
 use native.Mathlib.Omega.{arith}
 use borrow.Author.Tests.{eqb-true, eq-eqb, ne-eqb, ltb-false, le-ltb, not-false}
-use lib.ListN.{length}
+use lib.ListN.{length, getD, replicate, length-replicate, getD-replicate}
 use lib.Dec.{ltb, eqb}
 use Rattle.words.specs.Words.{Bytes}
+use Rattle.rules.specs.declared.answer.Refusal.{Refusal}
+use Rattle.rules.specs.declared.answer.Closed.{Closed}
+use Rattle.rules.specs.declared.answer.Closed.the-variants.{Wrote, Refused}
 use Rattle.rules.specs.Lists.{_or_}
-use Rattle.rules.specs.Register.{Register, maxRows, registerBytes, readRegister}
-use Rattle.rules.specs.Sheet.{Sheet, readSheet}
+use Rattle.rules.specs.Register.{Register, maxRows, registerBytes, registerIn, readRegister}
+use Rattle.rules.specs.Sheet.{Sheet, sheetIn, readSheet}
 use Rattle.rules.specs.Closing.{complete, nextRows, next}
 use Rattle.rules.specs.Refused.{Outcome, refused, done, Closing, closing, registerRoom, verdictRoom, closeSheet, closeOutcome, runRefused}
+use Rattle.rules.specs.Promises.{over, ClosePromise}
+use Rattle.rules.specs.Applies.{toClose, Smallest}
 use Rattle.laws.specs.Tests.{or-false}
 use Rattle.laws.specs.RegisterLaws as register
 use Rattle.laws.specs.SheetLaws as sheet
 use Rattle.laws.specs.NextSound.{next-read}
 use Rattle.laws.specs.NotRefused.{refused-not, done-same, passed}
+use Rattle.laws.specs.Exactly.{firstFor, smallest, none-applies, close-exactly}
+use Rattle.laws.specs.Meets.{refuses-closing, writes-closing}
+use Rattle.laws.specs.Kept.{kept-wrote-closing, kept-refuses-closing}
 use Rattle.laws.specs.Examples.{Step, notice, sheetAfter, R, A}
 
--- a closing, told by what it does with the bytes that it is given and the lengths of the buffers that it is lent
+-- what a closing answers, and what it leaves in its two buffers
+pub record Left : Type 0 where
+  pub answer : Closed
+  pub next : Bytes
+  pub verdicts : Bytes
+
+-- a closing, told by what it does with a register, a sheet, and the two buffers as they were lent
 abbrev pub Closer : Type 0
-Closer = Bytes → Bytes → ℕ → ℕ → Outcome Closing
+Closer = Bytes → Bytes → Bytes → Bytes → Left
+
+-- it answers the two lengths, and writes at the start of the buffers
+abbrev pub writes : Closing → Bytes → Bytes → Left
+writes c next verdicts = record { answer = Wrote (length c.register) (length c.verdicts); next = over next c.register; verdicts = over verdicts c.verdicts }
+
+-- it answers the refusal, and leaves the buffers as they were
+abbrev pub refusesWith : Refusal → Bytes → Bytes → Left
+refusesWith x next verdicts = record { answer = Refused x; next = next; verdicts = verdicts }
 
 -- nothing refuses the closing of this register and this sheet
 pub record Closes (r t : Bytes) (nextRoom room : ℕ) (g : Register) (s : Sheet) : Type 0 where
@@ -39,8 +62,18 @@ pub record Closes (r t : Bytes) (nextRoom room : ℕ) (g : Register) (s : Sheet)
 
 -- DEMAND 2
 pub record Demand2 (c : Closer) : Type 0 where
-  pub closes : (r t : Bytes) (n m : ℕ) (g : Register) (s : Sheet) → Closes r t n m g s → c r t n m ≡ done (closing g s)
-  pub refuses : (r t : Bytes) (n m x : ℕ) → closeOutcome r t n m ≡ refused x → c r t n m ≡ refused x
+  pub closes : (r t next verdicts : Bytes) (g : Register) (s : Sheet) → Closes r t (length next) (length verdicts) g s
+      → c r t next verdicts ≡ writes (closing g s) next verdicts
+  pub refuses : (r t next verdicts : Bytes) (x : Refusal) → Smallest (toClose r t (length next) (length verdicts)) x
+      → c r t next verdicts ≡ refusesWith x next verdicts
+
+-- what is left is what closing promises of this outcome, in buffers that held this
+abbrev pub Promised : Outcome Closing → Bytes → Bytes → Left → Type 0
+Promised o next verdicts l = ClosePromise o next verdicts (l .answer) (l .next) (l .verdicts)
+
+-- the closing keeps the promise that `close` ensures
+abbrev pub Keeps : Closer → Type 0
+Keeps c = (r t next verdicts : Bytes) → Promised (closeOutcome r t (length next) (length verdicts)) next verdicts (c r t next verdicts)
 
 -- a closing that is not refused
 pub closes→ : (r t : Bytes) (n m : ℕ) (c : Closing) → closeOutcome r t n m ≡ done c → (g : Register) × (s : Sheet) × Closes r t n m g s × (c ≡ closing g s)
@@ -87,17 +120,62 @@ unfolding closeOutcome closeSheet _or_
       le-ltb m verdictRoom (h .verdict-room),
     )
 
--- THE PAPER'S CLOSING MEETS IT
-pub paper-closes : Demand2 closeOutcome
-paper-closes = record { closes = →closes; refuses = λ r t n m x e. e }
+-- ---- what demand 2 asks is what `close` promises
 
--- and it settles the outcome: whoever meets it does what the paper does
-pub settles : (c : Closer) → Demand2 c → (r t : Bytes) (n m : ℕ) → c r t n m ≡ closeOutcome r t n m
-settles c d r t n m = go (closeOutcome r t n m) refl
+module _ (r t next verdicts : Bytes) (l : Left) (p : Promised (closeOutcome r t (length next) (length verdicts)) next verdicts l) where
+  -- A CALL THAT KEEPS THE PROMISE OF CLOSE DOES WHAT IS ASKED, where nothing refuses
+  pub promised-closes : (g : Register) (s : Sheet) → Closes r t (length next) (length verdicts) g s → l ≡ writes (closing g s) next verdicts
+  promised-closes g s h =
+      let w = kept-wrote-closing (closeOutcome r t (length next) (length verdicts)) (→closes r t (length next) (length verdicts) g s h) p in
+      λ i. record { answer = w .0 i; next = w .1 i; verdicts = w .2 i }
+
+  -- and where a refusal is the smallest that applies
+  pub promised-refuses : (x : Refusal) → Smallest (toClose r t (length next) (length verdicts)) x → l ≡ refusesWith x next verdicts
+  promised-refuses x h =
+      let w = kept-refuses-closing (closeOutcome r t (length next) (length verdicts)) (close-exactly r t (length next) (length verdicts) .refused-when x h) p in
+      λ i. record { answer = w .0 i; next = w .1 i; verdicts = w .2 i }
+
+-- SO WHOEVER KEEPS THE PROMISE OF CLOSE MEETS DEMAND 2
+pub keeps-meets : (c : Closer) → Keeps c → Demand2 c
+keeps-meets c k = record {
+  closes = λ r t next verdicts. promised-closes r t next verdicts (c r t next verdicts) (k r t next verdicts);
+  refuses = λ r t next verdicts. promised-refuses r t next verdicts (c r t next verdicts) (k r t next verdicts);
+}
+
+-- AND IT SETTLES THE OUTCOME: whoever meets it does what the paper does
+pub settles : (c : Closer) → Demand2 c → Keeps c
+settles c d r t next verdicts = go (closeOutcome r t (length next) (length verdicts)) refl
   where
-    go : (o : Outcome Closing) → closeOutcome r t n m ≡ o → c r t n m ≡ o
-    go (refused x) e = d .refuses r t n m x e
-    go (done k) e = let p = closes→ r t n m k e in d .closes r t n m (p .0) (p .1) (p .2) ∙ ap done (sym (p .3))
+    go : (o : Outcome Closing) → closeOutcome r t (length next) (length verdicts) ≡ o → Promised o next verdicts (c r t next verdicts)
+    go (refused n) e =
+        let w = close-exactly r t (length next) (length verdicts) .only-when n e in
+        subst (Promised (refused n) next verdicts) (sym (d .refuses r t next verdicts (w .0) (w .2))) (refuses-closing (refused n) (w .0) next verdicts (ap refused (w .1)))
+    go (done k) e =
+        let w = closes→ r t (length next) (length verdicts) k e in
+        subst (Promised (done k) next verdicts) (sym (d .closes r t next verdicts (w .0) (w .1) (w .2)))
+        (writes-closing (done k) (closing (w .0) (w .1)) next verdicts (ap done (w .3)))
+
+-- what is left where this refusal is the smallest that applies, or none does
+unfoldable pub leaves : Option Refusal → Closing → Bytes → Bytes → Left
+leaves none c next verdicts = writes c next verdicts
+leaves (some x) c next verdicts = refusesWith x next verdicts
+
+-- the paper's own closing
+unfoldable pub paper : Closer
+paper r t next verdicts = leaves (firstFor (toClose r t (length next) (length verdicts))) (closing (registerIn r) (sheetIn t)) next verdicts
+
+paper-keeps : Keeps paper
+unfolding leaves paper
+paper-keeps r t next verdicts = go (firstFor (toClose r t (length next) (length verdicts))) refl
+  where
+    go : (f : Option Refusal) → firstFor (toClose r t (length next) (length verdicts)) ≡ f
+        → Promised (closeOutcome r t (length next) (length verdicts)) next verdicts (leaves f (closing (registerIn r) (sheetIn t)) next verdicts)
+    go none e = writes-closing _ _ next verdicts (close-exactly r t (length next) (length verdicts) .else-done (none-applies _ e))
+    go (some x) e = refuses-closing _ x next verdicts (close-exactly r t (length next) (length verdicts) .refused-when x (smallest _ x e))
+
+-- THE PAPER'S CLOSING MEETS IT
+pub paper-closes : Demand2 paper
+paper-closes = keeps-meets paper paper-keeps
 
 -- CLOSED AGAIN ON ITS RESULT, THE SAME SHEET IS REFUSED WITH 4
 pub closed-again : (r t : Bytes) (n m : ℕ) (c : Closing) → closeOutcome r t n m ≡ done c
@@ -125,76 +203,120 @@ none-follows r t n m g s p q e =
 
 -- ---- wrong versions
 
--- REFUSING ALWAYS
-abbrev pub refusesAlways : ℕ → Closer
-refusesAlways x r t n m = refused x
+-- REFUSING ALWAYS, with whatever refusal, whatever is left in the buffers
+abbrev pub RefusesAlways : Closer → Type 0
+RefusesAlways c = (r t next verdicts : Bytes) → (x : Refusal) × (c r t next verdicts .answer ≡ Refused x)
 
--- ANSWERING ALWAYS ALIKE
-abbrev pub answersAlike : Outcome Closing → Closer
-answersAlike o r t n m = o
+-- ANSWERING ALWAYS ALIKE: one answer for everything, whatever is left in the buffers
+abbrev pub AnswersAlike : Closer → Type 0
+AnswersAlike c = (a : Closed) × ((r t next verdicts : Bytes) → c r t next verdicts .answer ≡ a)
 
--- refused where the paper refuses, else this
-unfoldable pub instead : Outcome Closing → Closing → Outcome Closing
-instead (refused x) c = refused x
-instead (done k) c = done c
-
--- DOING NOTHING: the old register, and no verdict
-abbrev pub doesNothing : Closer
-doesNothing r t n m = instead (closeOutcome r t n m) (record { register = r; verdicts = [] })
+-- DOING NOTHING: both buffers are left as they were, whatever is answered
+abbrev pub DoesNothing : Closer → Type 0
+DoesNothing c = (r t next verdicts : Bytes) → (c r t next verdicts .next ≡ next) × (c r t next verdicts .verdicts ≡ verdicts)
 
 -- N: no sets, notices 0
 abbrev pub N : List Step
 N = notice 3 0 ∷ notice 5 0 ∷ []
 
 -- an example's sheet
-abbrev sheetOf : List Step → Bytes
+abbrev pub sheetOf : List Step → Bytes
 sheetOf xs = bytesOf (sheetAfter 1 xs)
   where
     bytesOf : Outcome Bytes → Bytes
     bytesOf (refused x) = []
     bytesOf (done b) = b
 
--- what a closing does with R and an example's sheet
-abbrev on : Closer → List Step → Outcome Closing
-on c xs = c (registerBytes R) (sheetOf xs) registerRoom verdictRoom
+-- demand 2 on an example that closes: what the closing of R and the example's sheet gives is written into any two buffers that are long enough
+abbrev pub AsksOn : Closer → List Step → Type 0
+AsksOn c xs =
+    (k : Closing) → closeOutcome (registerBytes R) (sheetOf xs) registerRoom verdictRoom ≡ done k
+    → (next verdicts : Bytes) → registerRoom ≤ length next → verdictRoom ≤ length verdicts
+    → c (registerBytes R) (sheetOf xs) next verdicts ≡ writes k next verdicts
 
--- 0 for a refusal, else one more than the length of the verdicts
-abbrev answer : Outcome Closing → ℕ
-answer (refused x) = 0
-answer (done c) = length c.verdicts + 1
-
--- demand 2 rejects a closing on an example: it does not do what the paper does there
+-- it rejects a closing on an example: the closing does not do there what it asks
 abbrev pub Rejects : Closer → List Step → Type 0
-Rejects c xs = on c xs ≡ on closeOutcome xs → ⊥
+Rejects c xs = AsksOn c xs → ⊥
+
+asks : (c : Closer) → Demand2 c → (xs : List Step) → AsksOn c xs
+asks c d xs k e next verdicts n m =
+    let w = closes→ (registerBytes R) (sheetOf xs) registerRoom verdictRoom k e in
+    let h = w .2 in
+    d .closes (registerBytes R) (sheetOf xs) next verdicts (w .0) (w .1)
+    (record {
+      reads-register = h .reads-register;
+      reads-sheet = h .reads-sheet;
+      follows = h .follows;
+      unspoiled = h .unspoiled;
+      all-sent = h .all-sent;
+      few = h .few;
+      next-room = n;
+      verdict-room = m;
+    })
+    ∙ ap (λ (c : Closing). writes c next verdicts) (sym (w .3))
 
 pub rejected : (c : Closer) (xs : List Step) → Rejects c xs → Demand2 c → ⊥
-rejected c xs h d = h (settles c d (registerBytes R) (sheetOf xs) registerRoom verdictRoom)
+rejected c xs h d = h (asks c d xs)
 
--- A closes with two verdicts of 5 bytes, N with none
-pub refusing-on-A : (x : ℕ) → Rejects (refusesAlways x) A
+-- a buffer of zeros, long enough
+zeros : ℕ → Bytes
+zeros n = replicate n 0
+
+zeros-long : (n : ℕ) → n ≤ length (zeros n)
+unfolding zeros
+zeros-long n = omega (arith, length-replicate {A = ℕ} n 0)
+
+zeros-first : (n : ℕ) → 0 < n → getD (zeros n) 0 0 ≡ 0
+unfolding zeros
+zeros-first n h = getD-replicate n 0 0 0 h
+
+-- what a closing does with R and an example's sheet in buffers of zeros
+abbrev on : Closer → List Step → Left
+on c xs = c (registerBytes R) (sheetOf xs) (zeros registerRoom) (zeros verdictRoom)
+
+asked : (c : Closer) (xs : List Step) (k : Closing) → closeOutcome (registerBytes R) (sheetOf xs) registerRoom verdictRoom ≡ done k → AsksOn c xs
+    → on c xs ≡ writes k (zeros registerRoom) (zeros verdictRoom)
+asked c xs k e h = h k e (zeros registerRoom) (zeros verdictRoom) (zeros-long registerRoom) (zeros-long verdictRoom)
+
+-- 0 for a refusal, else one more than the length of the verdicts
+abbrev answered : Closed → ℕ
+answered (Wrote i j) = j + 1
+answered (Refused x) = 0
+
+-- A closes with two verdicts of 5 bytes
+asked-A : (c : Closer) → AsksOn c A → answered (on c A .answer) ≡ 11
 unfolding runRefused
-refusing-on-A x e = let z : _≡_ {A = ℕ} 0 11 = ap answer e in omega arith
+asked-A c h = ap (λ (l : Left). answered (l .answer)) (asked c A _ refl h)
 
-pub refusing-on-N : (x : ℕ) → Rejects (refusesAlways x) N
+-- N with none
+asked-N : (c : Closer) → AsksOn c N → answered (on c N .answer) ≡ 1
 unfolding runRefused
-refusing-on-N x e = let z : _≡_ {A = ℕ} 0 1 = ap answer e in omega arith
+asked-N c h = ap (λ (l : Left). answered (l .answer)) (asked c N _ refl h)
 
-pub refusing-always-fails : (x : ℕ) → Demand2 (refusesAlways x) → ⊥
-refusing-always-fails x d = rejected (refusesAlways x) A (refusing-on-A x) d
+pub refusing-on-A : (c : Closer) → RefusesAlways c → Rejects c A
+refusing-on-A c w h = let z : _≡_ {A = ℕ} 0 11 = sym (ap answered (w _ _ _ _ .1)) ∙ asked-A c h in omega arith
+
+pub refusing-on-N : (c : Closer) → RefusesAlways c → Rejects c N
+refusing-on-N c w h = let z : _≡_ {A = ℕ} 0 1 = sym (ap answered (w _ _ _ _ .1)) ∙ asked-N c h in omega arith
+
+pub refusing-always-fails : (c : Closer) → RefusesAlways c → Demand2 c → ⊥
+refusing-always-fails c w d = rejected c A (refusing-on-A c w) d
 
 -- one answer cannot be both A's and N's
-pub alike-on-A-and-N : (o : Outcome Closing) → on (answersAlike o) A ≡ on closeOutcome A → on (answersAlike o) N ≡ on closeOutcome N → ⊥
-unfolding runRefused
-alike-on-A-and-N o p q = let z : _≡_ {A = ℕ} 11 1 = ap answer (sym p ∙ q) in omega arith
+pub alike-on-A-and-N : (c : Closer) → AnswersAlike c → AsksOn c A → AsksOn c N → ⊥
+alike-on-A-and-N c w h k =
+    let z : _≡_ {A = ℕ} 11 1 = sym (asked-A c h) ∙ ap answered (w .1 _ _ _ _ ∙ sym (w .1 _ _ _ _)) ∙ asked-N c k in omega arith
 
-pub answering-alike-fails : (o : Outcome Closing) → Demand2 (answersAlike o) → ⊥
-answering-alike-fails o d =
-    rejected (answersAlike o) A
-    (λ p. alike-on-A-and-N o p (settles (answersAlike o) d (registerBytes R) (sheetOf N) registerRoom verdictRoom)) d
+pub answering-alike-fails : (c : Closer) → AnswersAlike c → Demand2 c → ⊥
+answering-alike-fails c w d = alike-on-A-and-N c w (asks c d A) (asks c d N)
 
-pub nothing-on-A : Rejects doesNothing A
-unfolding runRefused instead
-nothing-on-A e = let z : _≡_ {A = ℕ} 1 11 = ap answer e in omega arith
+-- the next register of A begins with its snapshot, 1
+pub nothing-on-A : (c : Closer) → DoesNothing c → Rejects c A
+unfolding runRefused over
+nothing-on-A c w h =
+    let z : getD (zeros registerRoom) 0 0 ≡ 1 = ap (λ (l : Bytes). getD l 0 0) (sym (w _ _ _ _ .0) ∙ ap (λ (l : Left). l .next) (asked c A _ refl h)) in
+    let first = zeros-first registerRoom (omega arith) in
+    omega arith
 
-pub doing-nothing-fails : Demand2 doesNothing → ⊥
-doing-nothing-fails d = rejected doesNothing A nothing-on-A d
+pub doing-nothing-fails : (c : Closer) → DoesNothing c → Demand2 c → ⊥
+doing-nothing-fails c w d = rejected c A (nothing-on-A c w) d
