@@ -161,11 +161,11 @@ leaves none c next verdicts = writes c next verdicts
 leaves (some x) c next verdicts = refusesWith x next verdicts
 
 -- the paper's own closing
-unfoldable pub paper : Closer
-paper r t next verdicts = leaves (firstFor (toClose r t (length next) (length verdicts))) (closing (registerIn r) (sheetIn t)) next verdicts
+unfoldable pub paperCloser : Closer
+paperCloser r t next verdicts = leaves (firstFor (toClose r t (length next) (length verdicts))) (closing (registerIn r) (sheetIn t)) next verdicts
 
-paper-keeps : Keeps paper
-unfolding leaves paper
+paper-keeps : Keeps paperCloser
+unfolding leaves paperCloser
 paper-keeps r t next verdicts = go (firstFor (toClose r t (length next) (length verdicts))) refl
   where
     go : (f : Option Refusal) → firstFor (toClose r t (length next) (length verdicts)) ≡ f
@@ -174,8 +174,8 @@ paper-keeps r t next verdicts = go (firstFor (toClose r t (length next) (length 
     go (some x) e = refuses-closing _ x next verdicts (close-exactly r t (length next) (length verdicts) .refused-when x (smallest _ x e))
 
 -- THE PAPER'S CLOSING MEETS IT
-pub paper-closes : Demand2 paper
-paper-closes = keeps-meets paper paper-keeps
+pub paper-closes : Demand2 paperCloser
+paper-closes = keeps-meets paperCloser paper-keeps
 
 -- CLOSED AGAIN ON ITS RESULT, THE SAME SHEET IS REFUSED WITH 4
 pub closed-again : (r t : Bytes) (n m : ℕ) (c : Closing) → closeOutcome r t n m ≡ done c
@@ -211,7 +211,7 @@ RefusesAlways c = (r t next verdicts : Bytes) → (x : Refusal) × (c r t next v
 abbrev pub AnswersAlike : Closer → Type 0
 AnswersAlike c = (a : Closed) × ((r t next verdicts : Bytes) → c r t next verdicts .answer ≡ a)
 
--- DOING NOTHING: both buffers are left as they were, whatever is answered
+-- DOING NOTHING: both buffers are left as they were, and success is answered, or whatever else
 abbrev pub DoesNothing : Closer → Type 0
 DoesNothing c = (r t next verdicts : Bytes) → (c r t next verdicts .next ≡ next) × (c r t next verdicts .verdicts ≡ verdicts)
 

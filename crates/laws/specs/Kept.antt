@@ -13,7 +13,7 @@ use Rattle.rules.specs.declared.answer.Closed.{Closed}
 use Rattle.rules.specs.declared.answer.Closed.the-variants as closed
 use Rattle.rules.specs.declared.answer.Checked.{Checked}
 use Rattle.rules.specs.declared.answer.Checked.the-variants as checked
-use Rattle.rules.specs.Answers.{refusalNumber, reasonNumber}
+use Rattle.rules.specs.Answers.{refusalNumber}
 use Rattle.rules.specs.ReadCheck.{Finding, passes, fails}
 use Rattle.rules.specs.Refused.{Outcome, refused, done, Closing}
 use Rattle.rules.specs.Promises.{over, told, left, Promise, toldClosing, leftRegister, leftVerdicts, ClosePromise, toldFinding, CheckPromise}

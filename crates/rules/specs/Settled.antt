@@ -41,7 +41,7 @@ refusal-back TooManyRows = refl
 refusal-back BufferShort = refl
 refusal-back CheckIllFormed = refl
 
-same-refusal : (x y : Refusal) → refusalNumber x ≡ refusalNumber y → x ≡ y
+pub same-refusal : (x y : Refusal) → refusalNumber x ≡ refusalNumber y → x ≡ y
 same-refusal x y e = sym (refusal-back x) ∙ ap refusalOf e ∙ refusal-back y
 
 -- no refusal has the number of a success

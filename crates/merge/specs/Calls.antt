@@ -1,0 +1,183 @@
+-- A CALLER'S CALLS of open, put, notice and join, each on bytes that an earlier call wrote or that were given, and one of close: what they
+-- answered and left in their buffers, where the operations keep their promises. The operations' contracts are these very promises.
+use Prim.Native.Nat.{ℕ}
+use mathlib.Core.Path.{_≡_, refl, sym, _∙_, ap, subst}
+use mathlib.Core.Bool.{true}
+use mathlib.Core.List.{[], append-nil}
+use mathlib.Core.Option.{some}
+use lib.ListN.{length, take}
+use lib.Seq.{take-at}
+use Rattle.words.specs.Words.{Bytes}
+use Rattle.rules.specs.declared.answer.Refusal.{Refusal}
+use Rattle.rules.specs.declared.answer.Answer.{Answer}
+use Rattle.rules.specs.declared.answer.Answer.the-variants.{Wrote, Refused}
+use Rattle.rules.specs.declared.answer.Closed.{Closed}
+use Rattle.rules.specs.declared.answer.Closed.the-variants as closed
+use Rattle.rules.specs.Answers.{refusalNumber}
+use Rattle.rules.specs.Register.{Register, readRegister}
+use Rattle.rules.specs.Sheet.{Sheet, isSheet, sheetBytes, readSheet}
+use Rattle.rules.specs.Refused.{Outcome, refused, done, Closing, openOutcome, putOutcome, noticeOutcome, joinOutcome, closeOutcome}
+use Rattle.rules.specs.Promises.{Promise, ClosePromise}
+use Rattle.rules.specs.Applies.{toClose, Smallest}
+use Rattle.rules.specs.Settled.{same-refusal}
+use Rattle.laws.specs.ListLaws.{Sub}
+use Rattle.laws.specs.GatherSound.{Head}
+use Rattle.laws.specs.NotRefused.{refused-not}
+use Rattle.laws.specs.Exactly.{open-exactly, put-exactly, notice-exactly, join-exactly, close-exactly}
+use Rattle.laws.specs.Kept.{Numbered, numbered, written, kept-done, kept-refused, kept-done-closing, kept-refused-closing, kept-wrote-closing, kept-refuses-closing}
+use Rattle.laws.specs.Trees.{Number, Tree, opened, put, notice, join, given, paper, andThen, ends, offersIn, epochOf, rosterOf, spoiledIn, gatheredIn}
+use Rattle.laws.specs.Demand3.{demand-3}
+use Rattle.laws.specs.FairTrees.{FairTree}
+use Rattle.laws.specs.NeverStuck.{never-stuck}
+use Rattle.laws.specs.SameClosing.{LongEnough, same-ended-closing}
+use Rattle.laws.specs.ClosingWrites.{Writes, closing-writes}
+
+-- the calls of a tree were made: the last of them answered this and left this in its buffer, and those before it answered success
+pub data Called : Tree → Answer → Bytes → Type 0 where
+  opens : (e : Number 4) (r : Number 2) (before : Bytes) {a : Answer} {after : Bytes}
+      → Promise (openOutcome e.value r.value (length before)) before a after → Called (opened e r (length before)) a after
+  puts : {t : Tree} {n : ℕ} {held : Bytes} → Called t (Wrote n) held → (e sen : ℕ) (csn : Number 8) (b before : Bytes) {a : Answer} {after : Bytes}
+      → Promise (putOutcome (take n held) e sen csn.value b (length before)) before a after → Called (put t e sen csn b (length before)) a after
+  notices : {t : Tree} {n : ℕ} {held : Bytes} → Called t (Wrote n) held → (e m k : ℕ) (before : Bytes) {a : Answer} {after : Bytes}
+      → Promise (noticeOutcome (take n held) e m k (length before)) before a after → Called (notice t e m k (length before)) a after
+  joins : {t u : Tree} {n m : ℕ} {held other : Bytes} → Called t (Wrote n) held → Called u (Wrote m) other → (before : Bytes) {a : Answer} {after : Bytes}
+      → Promise (joinOutcome (take n held) (take m other) (length before)) before a after → Called (join t u (length before)) a after
+  -- no call: a sheet that was given
+  begins : (b : Bytes) (p : isSheet b ≡ true) → Called (given b p) (Wrote (length b)) b
+
+-- an outcome is told by an answer and the buffer after it
+abbrev pub Tells : Outcome Bytes → Answer → Bytes → Type 0
+Tells o (Wrote n) after = o ≡ done (take n after)
+Tells o (Refused x) after = o ≡ refused (refusalNumber x)
+
+-- ---- the calls of a tree do what the tree says
+
+kept-tells : (o : Outcome Bytes) → Numbered o → {before after : Bytes} (a : Answer) → Promise o before a after → Tells o a after
+kept-tells o h (Wrote n) p = kept-done o h p
+kept-tells o h (Refused x) p = kept-refused o p .0
+
+-- THE LAST CALL OF A TREE ANSWERS THE TREE'S OUTCOME
+pub calls-tell : {t : Tree} {a : Answer} {after : Bytes} → Called t a after → Tells (ends paper t) a after
+unfolding ends andThen
+calls-tell (opens e r before {a} p) = kept-tells (openOutcome e.value r.value (length before)) (numbered (open-exactly e.value r.value (length before))) a p
+calls-tell (puts {t} {n} {held} c e sen csn b before {a} {after} p) =
+    subst (λ (o : Outcome Bytes). Tells (andThen o (λ s. putOutcome s e sen csn.value b (length before))) a after) (sym (calls-tell c))
+    (kept-tells (putOutcome (take n held) e sen csn.value b (length before)) (numbered (put-exactly (take n held) e sen csn.value b (length before))) a p)
+calls-tell (notices {t} {n} {held} c e m k before {a} {after} p) =
+    subst (λ (o : Outcome Bytes). Tells (andThen o (λ s. noticeOutcome s e m k (length before))) a after) (sym (calls-tell c))
+    (kept-tells (noticeOutcome (take n held) e m k (length before)) (numbered (notice-exactly (take n held) e m k (length before))) a p)
+calls-tell (joins {t} {u} {n} {m} {held} {other} c d before {a} {after} p) =
+    subst (λ (o : Outcome Bytes). Tells (andThen o (λ x. andThen (ends paper u) (λ y. joinOutcome x y (length before)))) a after) (sym (calls-tell c))
+    (subst (λ (o : Outcome Bytes). Tells (andThen o (λ y. joinOutcome (take n held) y (length before))) a after) (sym (calls-tell d))
+    (kept-tells (joinOutcome (take n held) (take m other) (length before)) (numbered (join-exactly (take n held) (take m other) (length before))) a p))
+calls-tell (begins b g) = ap done (sym (take-all b))
+  where
+    take-all : (b : Bytes) → take (length b) b ≡ b
+    take-all b = ap (take (length b)) (sym (append-nil b)) ∙ take-at b [] (length b) refl
+
+-- ---- what a caller has in its buffers
+
+-- A CALL THAT ANSWERED SUCCESS LEFT THE GATHERED SHEET'S BYTES
+pub calls-gather : {t : Tree} {n : ℕ} {after : Bytes} → Called t (Wrote n) after → take n after ≡ sheetBytes (gatheredIn t)
+calls-gather {t} {n} {after} c = demand-3 t (take n after) (calls-tell c)
+
+-- WHERE EPOCH, ROSTER, OFFERS AND BUFFERS ARE FAIR, NO CALL IS REFUSED
+pub calls-never-refused : (e r : ℕ) → Head e r → (t : Tree) (a : Answer) (after : Bytes) → FairTree e r t → Called t a after
+    → (n : ℕ) × (a ≡ Wrote n) × (take n after ≡ sheetBytes (gatheredIn t))
+calls-never-refused e r h t (Wrote n) after f c = (n, refl, calls-gather c)
+calls-never-refused e r h t (Refused x) after f c = absurd (refused-not (sym (calls-tell c) ∙ never-stuck e r h t f))
+
+-- ---- a call of close
+
+-- a call of close on a register and a sheet: what it answered, and what it left in the buffers that it was lent
+pub record CloseCall (register sheet : Bytes) (a : Closed) (next verdicts : Bytes) : Type 0 where
+  pub lent-next : Bytes
+  pub lent-verdicts : Bytes
+  pub kept : ClosePromise (closeOutcome register sheet (length lent-next) (length lent-verdicts)) lent-next lent-verdicts a next verdicts
+
+-- its buffers were long enough
+abbrev pub Roomy : {register sheet : Bytes} {a : Closed} {next verdicts : Bytes} → CloseCall register sheet a next verdicts → Type 0
+Roomy c = LongEnough (length (c .lent-next)) (length (c .lent-verdicts))
+
+-- what is written of the next register
+abbrev pub writtenNext : Closed → Bytes → Bytes
+writtenNext (closed.Wrote i j) next = take i next
+writtenNext (closed.Refused x) next = []
+
+-- and of the verdicts
+abbrev pub writtenVerdicts : Closed → Bytes → Bytes
+writtenVerdicts (closed.Wrote i j) verdicts = take j verdicts
+writtenVerdicts (closed.Refused x) verdicts = []
+
+-- WHERE IT ANSWERED SUCCESS, the lengths that it answered are those of what closing writes
+pub close-writes : {r t next verdicts : Bytes} {i j : ℕ} → CloseCall r t (closed.Wrote i j) next verdicts
+    → (g : Register) × (s : Sheet) × (readRegister r ≡ some g) × (readSheet t ≡ some s) × Writes g s (record { register = take i next; verdicts = take j verdicts })
+close-writes {r} {t} {next} {verdicts} {i} {j} c =
+    let n = length (c .lent-next) in
+    let m = length (c .lent-verdicts) in
+    closing-writes r t n m (record { register = take i next; verdicts = take j verdicts })
+    (kept-done-closing (closeOutcome r t n m) (numbered (close-exactly r t n m)) (c .kept))
+
+-- WHERE IT ANSWERED A REFUSAL, that is the smallest that applies, and both buffers are as they were
+pub close-refuses : {r t next verdicts : Bytes} {x : Refusal} (c : CloseCall r t (closed.Refused x) next verdicts)
+    → Smallest (toClose r t (length (c .lent-next)) (length (c .lent-verdicts))) x × (next ≡ c .lent-next) × (verdicts ≡ c .lent-verdicts)
+close-refuses {r} {t} {next} {verdicts} {x} c =
+    let n = length (c .lent-next) in
+    let m = length (c .lent-verdicts) in
+    let k = kept-refused-closing (closeOutcome r t n m) (c .kept) in
+    let w = close-exactly r t n m .only-when (refusalNumber x) (k .0) in
+    (subst (Smallest (toClose r t n m)) (same-refusal (w .0) x (sym (w .1))) (w .2), k .1, k .2)
+
+-- two calls of close answered alike, and wrote the same
+pub record Alike (a : Closed) (next verdicts : Bytes) (b : Closed) (next′ verdicts′ : Bytes) : Type 0 where
+  pub answers : a ≡ b
+  pub registers : writtenNext a next ≡ writtenNext b next′
+  pub all-verdicts : writtenVerdicts a verdicts ≡ writtenVerdicts b verdicts′
+
+-- what a call of close is known to have done, by its outcome
+written-by : {r t next verdicts : Bytes} {a : Closed} (c : CloseCall r t a next verdicts) (k : Closing)
+    → closeOutcome r t (length (c .lent-next)) (length (c .lent-verdicts)) ≡ done k
+    → (a ≡ closed.Wrote (length k.register) (length k.verdicts)) × (writtenNext a next ≡ k.register) × (writtenVerdicts a verdicts ≡ k.verdicts)
+written-by {r} {t} {next} {verdicts} c k e =
+    let w = kept-wrote-closing (closeOutcome r t (length (c .lent-next)) (length (c .lent-verdicts))) e (c .kept) in (
+      w .0,
+      ap (λ (z : Closed). writtenNext z next) (w .0) ∙ sym (written (c .lent-next) k.register _ refl (w .1)),
+      ap (λ (z : Closed). writtenVerdicts z verdicts) (w .0) ∙ sym (written (c .lent-verdicts) k.verdicts _ refl (w .2)),
+    )
+
+-- and where it is refused
+refused-by : {r t next verdicts : Bytes} {a : Closed} (c : CloseCall r t a next verdicts) (x : Refusal)
+    → closeOutcome r t (length (c .lent-next)) (length (c .lent-verdicts)) ≡ refused (refusalNumber x)
+    → (a ≡ closed.Refused x) × (writtenNext a next ≡ []) × (writtenVerdicts a verdicts ≡ [])
+refused-by {r} {t} {next} {verdicts} c x e =
+    let w = kept-refuses-closing (closeOutcome r t (length (c .lent-next)) (length (c .lent-verdicts))) e (c .kept) .0 in
+    (w, ap (λ (z : Closed). writtenNext z next) w, ap (λ (z : Closed). writtenVerdicts z verdicts) w)
+
+-- calls of close with one outcome are alike
+alike : {r t u next verdicts next′ verdicts′ : Bytes} {a b : Closed} (c : CloseCall r t a next verdicts) (d : CloseCall r u b next′ verdicts′)
+    → closeOutcome r t (length (c .lent-next)) (length (c .lent-verdicts)) ≡ closeOutcome r u (length (d .lent-next)) (length (d .lent-verdicts))
+    → Alike a next verdicts b next′ verdicts′
+alike {r} {t} {u} {next} {verdicts} {next′} {verdicts′} {a} {b} c d e =
+    go (closeOutcome r u (length (d .lent-next)) (length (d .lent-verdicts))) e refl
+  where
+    go : (o : Outcome Closing) → closeOutcome r t (length (c .lent-next)) (length (c .lent-verdicts)) ≡ o
+        → closeOutcome r u (length (d .lent-next)) (length (d .lent-verdicts)) ≡ o → Alike a next verdicts b next′ verdicts′
+    go (done k) p q =
+        let v = written-by c k p in
+        let w = written-by d k q in
+        record { answers = v .0 ∙ sym (w .0); registers = v .1 ∙ sym (w .1); all-verdicts = v .2 ∙ sym (w .2) }
+    go (refused i) p q =
+        let x = close-exactly r t (length (c .lent-next)) (length (c .lent-verdicts)) .only-when i p in
+        let v = refused-by c (x .0) (p ∙ ap refused (x .1)) in
+        let w = refused-by d (x .0) (q ∙ ap refused (x .1)) in
+        record { answers = v .0 ∙ sym (w .0); registers = v .1 ∙ sym (w .1); all-verdicts = v .2 ∙ sym (w .2) }
+
+-- TWO DEPOTS' CALLS with one epoch, one roster and the same distinct offers, in buffers of any lengths that are long enough: closed on one
+-- register they are answered alike, with the same register and verdicts or the same refusal
+pub depots-alike : {t u : Tree} {n m : ℕ} {held other : Bytes} → Called t (Wrote n) held → Called u (Wrote m) other
+    → epochOf t ≡ epochOf u → rosterOf t ≡ rosterOf u → spoiledIn t ≡ spoiledIn u → Sub (offersIn t) (offersIn u) → Sub (offersIn u) (offersIn t)
+    → {r next verdicts next′ verdicts′ : Bytes} {a b : Closed} (c : CloseCall r (take n held) a next verdicts) (d : CloseCall r (take m other) b next′ verdicts′)
+    → Roomy c → Roomy d → Alike a next verdicts b next′ verdicts′
+depots-alike {t} {u} {n} {m} {held} {other} p q e r s v w {r = register} c d x y =
+    alike c d
+    (same-ended-closing t u (take n held) (take m other) (calls-tell p) (calls-tell q) e r s v w register (length (c .lent-next)) (length (c .lent-verdicts)) (length (d .lent-next)) (length (d .lent-verdicts)) x y)
