@@ -3,7 +3,7 @@
 use Prim.Native.Nat.{ℕ}
 use mathlib.Core.Path.{_≡_, refl, sym, _∙_, ap}
 use lib.ListN.{length, take, drop}
-use lib.Seq.{take-at}
+use lib.Seq.{take-at, drop-at}
 use Rattle.words.specs.Words.{Bytes}
 use Rattle.rules.specs.declared.answer.Refusal.{Refusal}
 use Rattle.rules.specs.declared.answer.Reason.{Reason}
@@ -34,6 +34,11 @@ pub written : (old new : Bytes) (n : ℕ) {after : Bytes} → n ≡ length new �
 unfolding over
 written old new n e p = sym (ap (take n) p ∙ take-at new (drop (length new) old) n (sym e))
 
+-- and the bytes after it stay
+pub unwritten : (old new : Bytes) (n : ℕ) {after : Bytes} → n ≡ length new → after ≡ over old new → drop n after ≡ drop n old
+unfolding over
+unwritten old new n e p = ap (drop n) p ∙ drop-at new (drop (length new) old) n (sym e) ∙ ap (λ (k : ℕ). drop k old) (sym e)
+
 -- ---- one buffer
 
 module _ (o : Outcome Bytes) {before after : Bytes} where
@@ -45,6 +50,15 @@ module _ (o : Outcome Bytes) {before after : Bytes} where
       go : (r : Outcome Bytes) → o ≡ r → Promise r before (answer.Wrote n) after → o ≡ done (take n after)
       go (refused k) e p = absurd (h (e ∙ ap refused (sym (ap (λ (x : ℕ × ℕ). x .0) (p .answered)))))
       go (done b) e p = e ∙ ap done (written before b n (ap (λ (x : ℕ × ℕ). x .1) (p .answered)) (p .buffer))
+
+  -- the bytes after that length stay
+  pub kept-after : {n : ℕ} → Promise o before (answer.Wrote n) after → drop n after ≡ drop n before
+  unfolding told left
+  kept-after {n} p = go o p
+    where
+      go : (r : Outcome Bytes) → Promise r before (answer.Wrote n) after → drop n after ≡ drop n before
+      go (refused k) p = ap (drop n) (p .buffer)
+      go (done b) p = unwritten before b n (ap (λ (x : ℕ × ℕ). x .1) (p .answered)) (p .buffer)
 
   -- WHERE IT ANSWERS A REFUSAL IT IS REFUSED WITH THAT NUMBER, and the buffer is as it was
   pub kept-refused : {x : Refusal} → Promise o before (answer.Refused x) after → (o ≡ refused (refusalNumber x)) × (after ≡ before)
@@ -79,6 +93,17 @@ module _ (o : Outcome Closing) {next next′ verdicts verdicts′ : Bytes} where
           let f = written next (c .register) i (ap (λ (x : ℕ × ℕ × ℕ). x .1) (p .answered)) (p .next) in
           let g = written verdicts (c .verdicts) j (ap (λ (x : ℕ × ℕ × ℕ). x .2) (p .answered)) (p .verdicts) in
           e ∙ (λ t. done (record { register = f t; verdicts = g t }))
+
+  pub kept-after-closing : {i j : ℕ} → ClosePromise o next verdicts (closed.Wrote i j) next′ verdicts′ → (drop i next′ ≡ drop i next) × (drop j verdicts′ ≡ drop j verdicts)
+  unfolding toldClosing leftRegister leftVerdicts
+  kept-after-closing {i} {j} p = go o p
+    where
+      go : (r : Outcome Closing) → ClosePromise r next verdicts (closed.Wrote i j) next′ verdicts′ → (drop i next′ ≡ drop i next) × (drop j verdicts′ ≡ drop j verdicts)
+      go (refused k) p = (ap (drop i) (p .next), ap (drop j) (p .verdicts))
+      go (done c) p = (
+        unwritten next (c .register) i (ap (λ (x : ℕ × ℕ × ℕ). x .1) (p .answered)) (p .next),
+        unwritten verdicts (c .verdicts) j (ap (λ (x : ℕ × ℕ × ℕ). x .2) (p .answered)) (p .verdicts),
+      )
 
   pub kept-refused-closing : {x : Refusal} → ClosePromise o next verdicts (closed.Refused x) next′ verdicts′
       → (o ≡ refused (refusalNumber x)) × (next′ ≡ next) × (verdicts′ ≡ verdicts)

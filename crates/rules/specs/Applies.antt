@@ -13,7 +13,7 @@ use Rattle.rules.specs.declared.answer.Refusal.{Refusal}
 use Rattle.rules.specs.declared.answer.Refusal.the-variants.{RegisterIllFormed, SheetIllFormed, OfferIllFormed, WrongEpoch, WrongRoster, Spoiled, Incomplete, TooManyRows, BufferShort, CheckIllFormed}
 use Rattle.rules.specs.Lists.{_and_, _or_, any}
 use Rattle.rules.specs.Numbers.{masterOf}
-use Rattle.rules.specs.Register.{Register, maxRows, registerIn, isRegister}
+use Rattle.rules.specs.Register.{maxRows, registerIn, isRegister}
 use Rattle.rules.specs.Sheet.{Sheet, noNotice, maxSets, masters, inRoster, setsOf, sheetIn, isSheet, areRecords}
 use Rattle.rules.specs.Closing.{next}
 use Rattle.rules.specs.ReadCheck.{readCommitted, repeatableRead, snapshotIsolation}

@@ -1,0 +1,271 @@
+-- THE AUDITOR'S PAGE. The three demands that every part is marked by: a field for each sentence, in order, and below each record the value
+-- that proves it. What an operation does is its outcome (`rules` `Refused`), and what its code ensures of its answer and of every lent byte is
+-- its promise of that outcome (`rules` `Promises`).
+use Prim.Native.Nat.{ℕ}
+use mathlib.Core.Path.{_≡_, ap, ap₂}
+use mathlib.Core.Bool.{true, false}
+use mathlib.Core.List.{List, List·Memᴰ}
+use mathlib.Core.Option.{Option, none, some}
+use lib.ListN.{length, take, drop}
+use Rattle.words.specs.Words.{Bytes}
+use Rattle.rules.specs.declared.row.Read.{Read}
+use Rattle.rules.specs.declared.answer.Refusal.{Refusal}
+use Rattle.rules.specs.declared.answer.Answer.{Answer}
+use Rattle.rules.specs.declared.answer.Answer.the-variants.{Wrote, Refused}
+use Rattle.rules.specs.declared.answer.Closed.{Closed}
+use Rattle.rules.specs.declared.answer.Closed.the-variants as closed
+use Rattle.rules.specs.declared.answer.Checked.{Checked}
+use Rattle.rules.specs.declared.answer.Checked.the-variants as checked
+use Rattle.rules.specs.declared.answer.Reason.{Reason}
+use Rattle.rules.specs.Answers.{refusalNumber}
+use Rattle.rules.specs.Numbers.{masterOf}
+use Rattle.rules.specs.Register.{Register, soundRegister, registerBytes, registerIn, readRegister}
+use Rattle.rules.specs.Sheet.{WriteSet, Sheet, soundSheet, sheetBytes, sheetIn, readSheet, offeredRecords}
+use Rattle.rules.specs.Gathering.{Offer, aSet, aNotice, emptySheet, spoiledSheet, gathered, offersOf, withOffer, joined}
+use Rattle.rules.specs.Closing.{commits}
+use Rattle.rules.specs.ReadCheck.{Finding, passes, fails, checkFrom, readsOf}
+use Rattle.rules.specs.Refused.{Outcome, refused, done, Closing, closing, sheetRoom, openOutcome, putOutcome, noticeOutcome, joinSheets, joinOutcome, offerTo, offeredSet, offeredNotice, closeSheet, closeOutcome, checkReads, readsOutcome, checkOutcome}
+use Rattle.rules.specs.Promises.{Promise, ClosePromise, CheckPromise}
+use Rattle.rules.specs.Applies.{Asked, toOpen, toPut, toNotice, toJoin, toClose, toCheck, Smallest, RefusedExactly}
+use Rattle.rules.specs.Settled as settled
+use Rattle.laws.specs.ListLaws.{Sub}
+use Rattle.laws.specs.Says.{Says}
+use Rattle.laws.specs.RegisterLaws as register
+use Rattle.laws.specs.SheetLaws as sheet
+use Rattle.laws.specs.GatherLaws as gathering
+use Rattle.laws.specs.GatherSound.{Head}
+use Rattle.laws.specs.OwnOffers as own
+use Rattle.laws.specs.Trees.{Number, Tree, paper, ends, epochOf, rosterOf, gatheredIn, Within}
+use Rattle.laws.specs.FairTrees.{GoodSet, GoodNotice, FairTree}
+use Rattle.laws.specs.NeverStuck as stuck
+use Rattle.laws.specs.NeverStuck.{JustWhen}
+use Rattle.laws.specs.Demand3 as dealt
+use Rattle.laws.specs.SameBytes as bytes
+use Rattle.laws.specs.Commits as committing
+use Rattle.laws.specs.Commits.{Committed}
+use Rattle.laws.specs.NotRefused.{setBy}
+use Rattle.laws.specs.Exactly as exactly
+use Rattle.laws.specs.Exactly.{entriesOf}
+use Rattle.laws.specs.Kept as kept
+use Rattle.laws.specs.ClosingWrites as writing
+use Rattle.laws.specs.ClosingWrites.{Writes}
+use Rattle.laws.specs.FirstFailing as reading
+use Rattle.laws.specs.Closers as closers
+use Rattle.laws.specs.Closers.{Closer, Demand2, Keeps, RefusesAlways, AnswersAlike, DoesNothing}
+use Rattle.laws.specs.Gatherers as gatherers
+use Rattle.laws.specs.Gatherers.{Demand3, alwaysSpoiled, firstOffer, countsDeliveries}
+use Rattle.laws.specs.Examples as examples
+use Rattle.merge.specs.Calls as calls
+use Rattle.merge.specs.Calls.{Called, CloseCall, Roomy, Alike, SameOffers}
+
+-- DEMAND 1: every public operation ends on all inputs, examines forms itself, refuses by a fixed number, and a refusal writes nothing.
+-- (That a function ends, on all inputs and without a precondition, is what the checker proves of its code.)
+pub record FirstDemand : Type 0 where
+  -- On all inputs an operation is refused with a number just when that row of the table is the smallest that applies, and else done:
+  pub opens : (epoch roster room : ℕ) → RefusedExactly (toOpen epoch roster room) (openOutcome epoch roster room) (sheetBytes (emptySheet epoch roster))
+  pub puts : (sheet : Bytes) (epoch sen csn : ℕ) (records : Bytes) (room : ℕ)
+      → RefusedExactly (toPut sheet epoch sen csn records room) (putOutcome sheet epoch sen csn records room)
+      (sheetBytes (withOffer (sheetIn sheet) (aSet (setBy csn sen (offeredRecords records)))))
+  pub notices : (sheet : Bytes) (epoch master number room : ℕ)
+      → RefusedExactly (toNotice sheet epoch master number room) (noticeOutcome sheet epoch master number room)
+      (sheetBytes (withOffer (sheetIn sheet) (aNotice (record { master = master; number = number }))))
+  pub joins : (a b : Bytes) (room : ℕ) → RefusedExactly (toJoin a b room) (joinOutcome a b room) (sheetBytes (joined (sheetIn a) (sheetIn b)))
+  pub closes : (register sheet : Bytes) (nextRoom room : ℕ)
+      → RefusedExactly (toClose register sheet nextRoom room) (closeOutcome register sheet nextRoom room) (closing (registerIn register) (sheetIn sheet))
+  pub checks : (register : Bytes) (mode lsn : ℕ) (keys csns : List ℕ)
+      → RefusedExactly (toCheck register mode lsn (readsOf keys csns)) (checkOutcome register mode lsn keys csns)
+      (checkFrom (registerIn register) mode lsn 0 (entriesOf (readsOf keys csns)))
+  pub checks-reads : (register : Bytes) (mode lsn : ℕ) (entries : List Read)
+      → RefusedExactly (toCheck register mode lsn (some entries)) (readsOutcome register mode lsn entries) (checkFrom (registerIn register) mode lsn 0 entries)
+  -- What the read check answers is the first failing entry, or that none fails.
+  pub first-failing : (g : Register) (mode lsn : ℕ) (entries : List Read) → reading.Tells g mode lsn 0 entries (checkFrom g mode lsn 0 entries)
+  -- It examines forms itself: what is no register is refused with 1, what is no sheet with 2, before all else.
+  pub close-examines-register : (register sheet : Bytes) (nextRoom room : ℕ) → readRegister register ≡ none → closeOutcome register sheet nextRoom room ≡ refused 1
+  pub check-examines-register : (register : Bytes) (mode lsn : ℕ) (keys csns : List ℕ) → readRegister register ≡ none → checkOutcome register mode lsn keys csns ≡ refused 1
+  pub reads-examines-register : (register : Bytes) (mode lsn : ℕ) (entries : List Read) → readRegister register ≡ none → readsOutcome register mode lsn entries ≡ refused 1
+  pub close-examines-sheet : (register sheet : Bytes) (nextRoom room : ℕ) (g : Register) → readRegister register ≡ some g → readSheet sheet ≡ none
+      → closeOutcome register sheet nextRoom room ≡ refused 2
+  pub put-examines-sheet : (sheet : Bytes) (epoch sen csn : ℕ) (records : Bytes) (room : ℕ) → readSheet sheet ≡ none → putOutcome sheet epoch sen csn records room ≡ refused 2
+  pub notice-examines-sheet : (sheet : Bytes) (epoch master number room : ℕ) → readSheet sheet ≡ none → noticeOutcome sheet epoch master number room ≡ refused 2
+  pub join-examines-first : (a b : Bytes) (room : ℕ) → readSheet a ≡ none → joinOutcome a b room ≡ refused 2
+  pub join-examines-second : (a b : Bytes) (room : ℕ) (s : Sheet) → readSheet a ≡ some s → readSheet b ≡ none → joinOutcome a b room ≡ refused 2
+  -- It refuses by a fixed number: a promise kept tells the outcome,
+  pub success-tells : (q : Asked) (o : Outcome Bytes) (result before after : Bytes) (n : ℕ) → RefusedExactly q o result → Promise o before (Wrote n) after
+      → o ≡ done (take n after)
+  pub refusal-tells : (o : Outcome Bytes) (before after : Bytes) (x : Refusal) → Promise o before (Refused x) after → o ≡ refused (refusalNumber x)
+  pub closing-success-tells : (q : Asked) (o : Outcome Closing) (result : Closing) (next verdicts next′ verdicts′ : Bytes) (i j : ℕ) → RefusedExactly q o result
+      → ClosePromise o next verdicts (closed.Wrote i j) next′ verdicts′ → o ≡ done (record { register = take i next′; verdicts = take j verdicts′ })
+  pub closing-refusal-tells : (o : Outcome Closing) (next verdicts next′ verdicts′ : Bytes) (x : Refusal)
+      → ClosePromise o next verdicts (closed.Refused x) next′ verdicts′ → o ≡ refused (refusalNumber x)
+  pub pass-tells : (q : Asked) (o : Outcome Finding) (result : Finding) → RefusedExactly q o result → CheckPromise o checked.Pass → o ≡ done passes
+  pub failure-tells : (o : Outcome Finding) (i k : ℕ) (reason : Reason) → CheckPromise o (checked.Fails i k reason) → o ≡ done (fails i k reason)
+  pub check-refusal-tells : (o : Outcome Finding) (x : Refusal) → CheckPromise o (checked.Refused x) → o ≡ refused (refusalNumber x)
+  -- and settles the answer and every lent byte.
+  pub settled : (o : Outcome Bytes) (before after after′ : Bytes) (a b : Answer) → Promise o before a after → Promise o before b after′ → (a ≡ b) × (after ≡ after′)
+  pub settled-closing : (o : Outcome Closing) (next verdicts n n′ v v′ : Bytes) (a b : Closed)
+      → ClosePromise o next verdicts a n v → ClosePromise o next verdicts b n′ v′ → (a ≡ b) × (n ≡ n′) × (v ≡ v′)
+  pub settled-check : (o : Outcome Finding) (a b : Checked) → CheckPromise o a → CheckPromise o b → a ≡ b
+  -- A refusal writes nothing.
+  pub refusal-writes-nothing : (o : Outcome Bytes) (before after : Bytes) (x : Refusal) → Promise o before (Refused x) after → after ≡ before
+  pub refused-closing-writes-nothing : (o : Outcome Closing) (next verdicts next′ verdicts′ : Bytes) (x : Refusal)
+      → ClosePromise o next verdicts (closed.Refused x) next′ verdicts′ → (next′ ≡ next) × (verdicts′ ≡ verdicts)
+  -- Success writes the named length, and the bytes after it stay.
+  pub bytes-after-stay : (o : Outcome Bytes) (before after : Bytes) (n : ℕ) → Promise o before (Wrote n) after → drop n after ≡ drop n before
+  pub closing-bytes-after-stay : (o : Outcome Closing) (next verdicts next′ verdicts′ : Bytes) (i j : ℕ)
+      → ClosePromise o next verdicts (closed.Wrote i j) next′ verdicts′ → (drop i next′ ≡ drop i next) × (drop j verdicts′ ≡ drop j verdicts)
+
+pub demand-1 : FirstDemand
+unfolding closeOutcome closeSheet checkOutcome readsOutcome checkReads putOutcome noticeOutcome offerTo joinOutcome joinSheets
+demand-1 = record {
+  opens = exactly.open-exactly;
+  puts = exactly.put-exactly;
+  notices = exactly.notice-exactly;
+  joins = exactly.join-exactly;
+  closes = exactly.close-exactly;
+  checks = exactly.check-exactly;
+  checks-reads = exactly.reads-exactly;
+  first-failing = λ g mode lsn es. reading.check-tells g mode lsn 0 es;
+  close-examines-register = λ r t n m e. ap (λ (g : Option Register). closeSheet g (readSheet t) n m) e;
+  check-examines-register = λ r mode lsn ks cs e. ap (λ (g : Option Register). checkReads g mode lsn (readsOf ks cs)) e;
+  reads-examines-register = λ r mode lsn es e. ap (λ (g : Option Register). checkReads g mode lsn (some es)) e;
+  close-examines-sheet = λ r t n m g e f. ap₂ (λ (a : Option Register) (b : Option Sheet). closeSheet a b n m) e f;
+  put-examines-sheet = λ s e sen csn b room h. ap (λ (a : Option Sheet). offerTo a (offeredSet e sen csn b) e (masterOf csn) room) h;
+  notice-examines-sheet = λ s e m n room h. ap (λ (a : Option Sheet). offerTo a (offeredNotice e m n) e m room) h;
+  join-examines-first = λ a b room e. ap (λ (x : Option Sheet). joinSheets x (readSheet b) room) e;
+  join-examines-second = λ a b room s e f. ap₂ (λ (x y : Option Sheet). joinSheets x y room) e f;
+  success-tells = λ q o result before after n e p. kept.kept-done o (kept.numbered e) p;
+  refusal-tells = λ o before after x p. kept.kept-refused o p .0;
+  closing-success-tells = λ q o result next verdicts next′ verdicts′ i j e p. kept.kept-done-closing o (kept.numbered e) p;
+  closing-refusal-tells = λ o next verdicts next′ verdicts′ x p. kept.kept-refused-closing o p .0;
+  pass-tells = λ q o result e p. kept.kept-pass o (kept.numbered e) p;
+  failure-tells = λ o i k reason p. kept.kept-fails o p;
+  check-refusal-tells = λ o x p. kept.kept-refused-check o p;
+  settled = λ o before after after′ a b p q. settled.settled o before p q;
+  settled-closing = λ o next verdicts n n′ v v′ a b p q. settled.settled-closing o next verdicts p q;
+  settled-check = λ o a b p q. settled.settled-check o p q;
+  refusal-writes-nothing = λ o before after x p. kept.kept-refused o p .1;
+  refused-closing-writes-nothing = λ o next verdicts next′ verdicts′ x p. let k = kept.kept-refused-closing o p in (k .1, k .2);
+  bytes-after-stay = λ o before after n p. kept.kept-after o p;
+  closing-bytes-after-stay = λ o next verdicts next′ verdicts′ i j p. kept.kept-after-closing o p;
+}
+
+-- DEMAND 2: closing gives exactly the verdicts and next register of document 01's rule. Sheets and registers read back as written, one
+-- encoding each.
+pub record SecondDemand : Type 0 where
+  -- Closing that is done gives the next register and the verdicts of what its bytes read as: each claimed key has one winner, and each set
+  -- stands whole or not at all.
+  pub closing-gives : (r t : Bytes) (n m : ℕ) (c : Closing) → closeOutcome r t n m ≡ done c
+      → (g : Register) × (s : Sheet) × (readRegister r ≡ some g) × (readSheet t ≡ some s) × Writes g s c
+  -- So a call of close that answers success wrote them, in the lengths that it answers.
+  pub closing-writes : (r t next verdicts : Bytes) (i j : ℕ) → CloseCall r t (closed.Wrote i j) next verdicts
+      → (g : Register) × (s : Sheet) × (readRegister r ≡ some g) × (readSheet t ≡ some s) × Writes g s (record { register = take i next; verdicts = take j verdicts })
+  -- One that answers a refusal met no smaller one that applies, and left both buffers as they were.
+  pub closing-refuses : (r t next verdicts : Bytes) (x : Refusal) (c : CloseCall r t (closed.Refused x) next verdicts)
+      → Smallest (toClose r t (length (c .lent-next)) (length (c .lent-verdicts))) x × (next ≡ c .lent-next) × (verdicts ≡ c .lent-verdicts)
+  -- A set commits just when it is fit and precedes every other fit set on each of its keys.
+  pub commits-just-when : (g : Register) (s : Sheet) (w : WriteSet) → soundSheet s ≡ true → List·Memᴰ w s.sets → Says (commits g s w) (Committed g s w)
+  -- Asked of any closing: who keeps the promise of close meets the demand, and who meets it keeps the promise.
+  pub keeps-meets : (c : Closer) → Keeps c → Demand2 c
+  pub meets-keeps : (c : Closer) → Demand2 c → Keeps c
+  -- The same sheet closed again on its result is refused with 4.
+  pub closed-again : (r t : Bytes) (n m : ℕ) (c : Closing) → closeOutcome r t n m ≡ done c → (n′ m′ : ℕ) → closeOutcome (c .register) t n′ m′ ≡ refused 4
+  -- Registers read back as written, and have one encoding.
+  pub register-reads-back : (g : Register) → soundRegister g ≡ true → readRegister (registerBytes g) ≡ some g
+  pub register-one-encoding : (a b : Bytes) (g : Register) → readRegister a ≡ some g → readRegister b ≡ some g → a ≡ b
+  -- So do sheets.
+  pub sheet-reads-back : (s : Sheet) → soundSheet s ≡ true → readSheet (sheetBytes s) ≡ some s
+  pub sheet-one-encoding : (a b : Bytes) (s : Sheet) → readSheet a ≡ some s → readSheet b ≡ some s → a ≡ b
+
+pub demand-2 : SecondDemand
+demand-2 = record {
+  closing-gives = writing.closing-writes;
+  closing-writes = λ r t next verdicts i j c. calls.close-writes c;
+  closing-refuses = λ r t next verdicts x c. calls.close-refuses c;
+  commits-just-when = committing.commits-iff;
+  keeps-meets = closers.keeps-meets;
+  meets-keeps = closers.settles;
+  closed-again = closers.closed-again;
+  register-reads-back = register.read-written;
+  register-one-encoding = register.one-encoding;
+  sheet-reads-back = sheet.read-written;
+  sheet-one-encoding = sheet.one-encoding;
+}
+
+-- DEMAND 3: however the offers of one epoch are dealt over sheets, repeated, ordered and joined, the final sheet is byte for byte the one
+-- that Gathering defines from the distinct offers; so all depots reach the same verdicts and register, or the same refusal.
+pub record ThirdDemand : Type 0 where
+  -- However they are dealt: a tree of calls of open, put, notice and join, of any shape, on sheets opened or given. Where the last call
+  -- answers success, it left the bytes of the sheet that Gathering defines from the offers.
+  pub final-sheet : (t : Tree) (n : ℕ) (after : Bytes) → Called t (Wrote n) after → take n after ≡ sheetBytes (gatheredIn t)
+  -- It does, if epoch and roster are one throughout and such that a sheet can have them, the offers are well-formed and of masters in the
+  -- roster, and each buffer is at least 9,240 long: gathering never gets stuck.
+  pub never-refused : (e r : ℕ) → Head e r → (t : Tree) (a : Answer) (after : Bytes) → FairTree e r t → Called t a after → (n : ℕ) × (a ≡ Wrote n) × (take n after ≡ sheetBytes (gatheredIn t))
+  pub never-stuck : (e r : ℕ) → Head e r → (t : Tree) → FairTree e r t → ends paper t ≡ done (sheetBytes (gatheredIn t))
+  -- And only then.
+  pub only-fair : (t : Tree) (b : Bytes) → ends paper t ≡ done b → FairTree (epochOf t) (rosterOf t) t
+  -- An offer is so just when putting it into the freshly opened sheet is not refused.
+  pub opened-fresh : (e r : ℕ) → Head e r → openOutcome e r sheetRoom ≡ done (sheetBytes (emptySheet e r))
+  pub good-set : (e r : ℕ) → Head e r → (sen : ℕ) (csn : Number 8) (b : Bytes)
+      → JustWhen (GoodSet e r sen csn.value b) ((c : Bytes) × (putOutcome (sheetBytes (emptySheet e r)) e sen csn.value b sheetRoom ≡ done c))
+  pub good-notice : (e r : ℕ) → Head e r → (m n : ℕ)
+      → JustWhen (GoodNotice e r m n) ((c : Bytes) × (noticeOutcome (sheetBytes (emptySheet e r)) e m n sheetRoom ≡ done c))
+  -- From the distinct offers: repeats and order make no difference.
+  pub distinct-offers : (e r : ℕ) (xs ys : List Offer) → Sub xs ys → Sub ys xs → gathered e r xs ≡ gathered e r ys
+  -- A sheet that is given is the sheet of its own offers, or it is spoiled; and spoiled is final.
+  pub given-sheet : (s : Sheet) → soundSheet s ≡ true → s.spoiled ≡ false → gathered s.epoch s.roster (offersOf s) ≡ s
+  pub given-spoiled : (s : Sheet) → soundSheet s ≡ true → s.spoiled ≡ true → s ≡ spoiledSheet s.epoch s.roster
+  pub spoiled-is-final : (u t : Tree) (b : Bytes) → Within u t → ends paper u ≡ done (sheetBytes (spoiledSheet (epochOf u) (rosterOf u))) → ends paper t ≡ done b
+      → b ≡ sheetBytes (spoiledSheet (epochOf u) (rosterOf u))
+  -- So all depots end in the same bytes,
+  pub same-bytes : (e r : ℕ) → Head e r → (t u : Tree) → FairTree e r t → FairTree e r u → SameOffers t u → (b : Bytes) × (ends paper t ≡ done b) × (ends paper u ≡ done b)
+  -- and reach the same verdicts and register, or the same refusal, each with buffers of its own that are long enough.
+  pub same-closing : (t u : Tree) (n m : ℕ) (held other : Bytes) → Called t (Wrote n) held → Called u (Wrote m) other → SameOffers t u
+      → (r next verdicts next′ verdicts′ : Bytes) (a b : Closed) (c : CloseCall r (take n held) a next verdicts) (d : CloseCall r (take m other) b next′ verdicts′)
+      → Roomy c → Roomy d → Alike a next verdicts b next′ verdicts′
+
+pub demand-3 : ThirdDemand
+demand-3 = record {
+  final-sheet = λ t n after c. calls.calls-gather c;
+  never-refused = calls.calls-never-refused;
+  never-stuck = stuck.never-stuck;
+  only-fair = stuck.fair-ended;
+  opened-fresh = stuck.opens-fresh;
+  good-set = stuck.good-set-put;
+  good-notice = stuck.good-notice-put;
+  distinct-offers = gathering.same-offers;
+  given-sheet = λ s e. own.own-offers s e;
+  given-spoiled = own.own-spoiled;
+  spoiled-is-final = dealt.stays-spoiled;
+  same-bytes = λ e r h t u f g w. bytes.same-bytes e r h t u f g (w .spoiled-alike) (w .in-the-other) (w .in-the-one);
+  same-closing = λ t u n m held other p q h r next verdicts next′ verdicts′ a b c d x y. calls.depots-alike p q h c d x y;
+}
+
+-- THE WRONG VERSIONS that document 01 names: each demand, asked of any candidate, rejects them on the examples that it names.
+pub record WrongVersions : Type 0 where
+  -- Refusing always, answering always alike, doing nothing: demand 2.
+  pub refusing-always : (c : Closer) → RefusesAlways c → Demand2 c → ⊥
+  pub answering-alike : (c : Closer) → AnswersAlike c → Demand2 c → ⊥
+  pub doing-nothing : (c : Closer) → DoesNothing c → Demand2 c → ⊥
+  -- Always spoiled, only repeating the first offer's sheet, counting deliveries as sets: demand 3.
+  pub always-spoiled : Demand3 alwaysSpoiled → ⊥
+  pub first-offer : Demand3 firstOffer → ⊥
+  pub deliveries : Demand3 countsDeliveries → ⊥
+  -- The operations of document 01 meet both.
+  pub paper-closes : Demand2 closers.paperCloser
+  pub paper-gathers : Demand3 paper
+
+pub wrong-versions : WrongVersions
+wrong-versions = record {
+  refusing-always = closers.refusing-always-fails;
+  answering-alike = closers.answering-alike-fails;
+  doing-nothing = closers.doing-nothing-fails;
+  always-spoiled = gatherers.always-spoiled-fails;
+  first-offer = gatherers.first-offer-fails;
+  deliveries = gatherers.deliveries-fail;
+  paper-closes = closers.paper-closes;
+  paper-gathers = gatherers.paper-meets;
+}
+
+-- THE CLERK'S STARRED EXAMPLES hold, by computation
+pub starred : examples.AllHold examples.table
+starred = examples.every
