@@ -1,5 +1,5 @@
 -- Trees of one epoch, one roster and the same distinct offers end in the same bytes, however the offers were dealt, ordered, repeated
--- and joined.
+-- and joined. A spoiled sheet holds no offers, so both began at one, or neither did.
 use Prim.Native.Nat.{ℕ}
 use mathlib.Core.Path.{_≡_, sym, _∙_, ap}
 use Rattle.words.specs.Words.{Bytes}
