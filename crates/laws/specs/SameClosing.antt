@@ -9,11 +9,10 @@ use Rattle.rules.specs.Lists.{_or_}
 use Rattle.rules.specs.Register.{Register, readRegister}
 use Rattle.rules.specs.Sheet.{Sheet, readSheet}
 use Rattle.rules.specs.Refused.{done, registerRoom, verdictRoom, closeSheet, closeOutcome}
-use Rattle.laws.specs.ListLaws.{Sub}
 use Rattle.laws.specs.GatherSound.{Head}
-use Rattle.laws.specs.Trees.{Tree, paper, ends, offersIn, epochOf, rosterOf, spoiledIn}
+use Rattle.laws.specs.Trees.{Tree, paper, ends, epochOf, rosterOf}
 use Rattle.laws.specs.FairTrees.{FairTree}
-use Rattle.laws.specs.SameBytes.{same-bytes, same-ended}
+use Rattle.laws.specs.SameBytes.{SameOffers, same-bytes, same-ended}
 
 -- buffers that are long enough for closing: 28,680 for the next register, 320 for the verdicts
 pub record LongEnough (nextRoom room : ℕ) : Type 0 where
@@ -33,17 +32,16 @@ unfolding closeOutcome
 rooms-alike g a n m n′ m′ l k = shortest (readRegister g) (readSheet a) n m l ∙ sym (shortest (readRegister g) (readSheet a) n′ m′ k)
 
 -- SO TREES OF THE SAME DISTINCT OFFERS CLOSE ALIKE FROM ONE REGISTER, TO THE SAME VERDICTS AND REGISTER OR THE SAME REFUSAL
-pub same-closing : (e r : ℕ) → Head e r → (t u : Tree) → FairTree e r t → FairTree e r u
-    → spoiledIn t ≡ spoiledIn u → Sub (offersIn t) (offersIn u) → Sub (offersIn u) (offersIn t)
+pub same-closing : (e r : ℕ) → Head e r → (t u : Tree) → FairTree e r t → FairTree e r u → SameOffers t u
     → (g : Bytes) (n m n′ m′ : ℕ) → LongEnough n m → LongEnough n′ m′
     → (a : Bytes) × (b : Bytes) × (ends paper t ≡ done a) × (ends paper u ≡ done b) × (closeOutcome g a n m ≡ closeOutcome g b n′ m′)
-same-closing e r h t u f k c s v g n m n′ m′ l o =
-    let w = same-bytes e r h t u f k c s v in
+same-closing e r h t u f k s g n m n′ m′ l o =
+    let w = same-bytes e r h t u f k s in
     (w .0, w .0, w .1, w .2, rooms-alike g (w .0) n m n′ m′ l o)
 
 -- the same of trees that are not refused
 pub same-ended-closing : (t u : Tree) (a b : Bytes) → ends paper t ≡ done a → ends paper u ≡ done b
-    → epochOf t ≡ epochOf u → rosterOf t ≡ rosterOf u → spoiledIn t ≡ spoiledIn u → Sub (offersIn t) (offersIn u) → Sub (offersIn u) (offersIn t)
+    → epochOf t ≡ epochOf u → rosterOf t ≡ rosterOf u → SameOffers t u
     → (g : Bytes) (n m n′ m′ : ℕ) → LongEnough n m → LongEnough n′ m′ → closeOutcome g a n m ≡ closeOutcome g b n′ m′
-same-ended-closing t u a b p q c d h s v g n m n′ m′ l o =
-    ap (λ (x : Bytes). closeOutcome g x n m) (same-ended t u a b p q c d h s v) ∙ rooms-alike g b n m n′ m′ l o
+same-ended-closing t u a b p q c d h g n m n′ m′ l o =
+    ap (λ (x : Bytes). closeOutcome g x n m) (same-ended t u a b p q c d h) ∙ rooms-alike g b n m n′ m′ l o

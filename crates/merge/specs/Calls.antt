@@ -20,15 +20,15 @@ use Rattle.rules.specs.Refused.{Outcome, refused, done, Closing, openOutcome, p
 use Rattle.rules.specs.Promises.{Promise, ClosePromise}
 use Rattle.rules.specs.Applies.{toClose, Smallest}
 use Rattle.rules.specs.Settled.{same-refusal}
-use Rattle.laws.specs.ListLaws.{Sub}
 use Rattle.laws.specs.GatherSound.{Head}
 use Rattle.laws.specs.NotRefused.{refused-not}
 use Rattle.laws.specs.Exactly.{open-exactly, put-exactly, notice-exactly, join-exactly, close-exactly}
 use Rattle.laws.specs.Kept.{Numbered, numbered, written, kept-done, kept-refused, kept-done-closing, kept-refused-closing, kept-wrote-closing, kept-refuses-closing}
-use Rattle.laws.specs.Trees.{Number, Tree, opened, put, notice, join, given, paper, andThen, ends, offersIn, epochOf, rosterOf, spoiledIn, gatheredIn}
+use Rattle.laws.specs.Trees.{Number, Tree, opened, put, notice, join, given, paper, andThen, ends, epochOf, rosterOf, gatheredIn}
 use Rattle.laws.specs.Demand3.{demand-3}
 use Rattle.laws.specs.FairTrees.{FairTree}
 use Rattle.laws.specs.NeverStuck.{never-stuck}
+use Rattle.laws.specs.SameBytes.{SameOffers}
 use Rattle.laws.specs.SameClosing.{LongEnough, same-ended-closing}
 use Rattle.laws.specs.ClosingWrites.{Writes, closing-writes}
 
@@ -172,22 +172,13 @@ alike {r} {t} {u} {next} {verdicts} {next′} {verdicts′} {a} {b} c d e =
         let w = refused-by d (x .0) (q ∙ ap refused (x .1)) in
         record { answers = v .0 ∙ sym (w .0); registers = v .1 ∙ sym (w .1); all-verdicts = v .2 ∙ sym (w .2) }
 
--- two trees of one epoch, one roster and the same distinct offers
-pub record SameOffers (t u : Tree) : Type 0 where
-  pub one-epoch : epochOf t ≡ epochOf u
-  pub one-roster : rosterOf t ≡ rosterOf u
-  -- either both begin at a spoiled sheet or neither does
-  pub spoiled-alike : spoiledIn t ≡ spoiledIn u
-  pub in-the-other : Sub (offersIn t) (offersIn u)
-  pub in-the-one : Sub (offersIn u) (offersIn t)
-
--- TWO DEPOTS' CALLS with the same distinct offers, in buffers of any lengths that are long enough: closed on one register they are
--- answered alike, with the same register and verdicts or the same refusal
-pub depots-alike : {t u : Tree} {n m : ℕ} {held other : Bytes} → Called t (Wrote n) held → Called u (Wrote m) other → SameOffers t u
+-- TWO DEPOTS' CALLS with one epoch, one roster and the same distinct offers, in buffers of any lengths that are long enough: closed on one
+-- register they are answered alike, with the same register and verdicts or the same refusal
+pub depots-alike : {t u : Tree} {n m : ℕ} {held other : Bytes} → Called t (Wrote n) held → Called u (Wrote m) other
+    → epochOf t ≡ epochOf u → rosterOf t ≡ rosterOf u → SameOffers t u
     → {r next verdicts next′ verdicts′ : Bytes} {a b : Closed} (c : CloseCall r (take n held) a next verdicts) (d : CloseCall r (take m other) b next′ verdicts′)
     → Roomy c → Roomy d → Alike a next verdicts b next′ verdicts′
-depots-alike {t} {u} {n} {m} {held} {other} p q h {r} c d x y =
+depots-alike {t} {u} {n} {m} {held} {other} p q e f h {r} c d x y =
     alike c d
-    (same-ended-closing t u (take n held) (take m other) (calls-tell p) (calls-tell q)
-    (h .one-epoch) (h .one-roster) (h .spoiled-alike) (h .in-the-other) (h .in-the-one)
+    (same-ended-closing t u (take n held) (take m other) (calls-tell p) (calls-tell q) e f h
     r (length (c .lent-next)) (length (c .lent-verdicts)) (length (d .lent-next)) (length (d .lent-verdicts)) x y)

@@ -41,6 +41,7 @@ use Rattle.laws.specs.NeverStuck as stuck
 use Rattle.laws.specs.NeverStuck.{JustWhen}
 use Rattle.laws.specs.Demand3 as dealt
 use Rattle.laws.specs.SameBytes as bytes
+use Rattle.laws.specs.SameBytes.{SameOffers}
 use Rattle.laws.specs.Commits as committing
 use Rattle.laws.specs.Commits.{Committed}
 use Rattle.laws.specs.NotRefused.{setBy}
@@ -56,7 +57,7 @@ use Rattle.laws.specs.Gatherers as gatherers
 use Rattle.laws.specs.Gatherers.{Demand3, alwaysSpoiled, firstOffer, countsDeliveries}
 use Rattle.laws.specs.Examples as examples
 use Rattle.merge.specs.Calls as calls
-use Rattle.merge.specs.Calls.{Called, CloseCall, Roomy, Alike, SameOffers}
+use Rattle.merge.specs.Calls.{Called, CloseCall, Roomy, Alike}
 
 -- DEMAND 1: every public operation ends on all inputs, examines forms itself, refuses by a fixed number, and a refusal writes nothing.
 -- (That a function ends, on all inputs and without a precondition, is what the checker proves of its code.)
@@ -219,7 +220,8 @@ pub record ThirdDemand : Type 0 where
   -- So all depots end in the same bytes,
   pub same-bytes : (e r : ℕ) → Head e r → (t u : Tree) → FairTree e r t → FairTree e r u → SameOffers t u → (b : Bytes) × (ends paper t ≡ done b) × (ends paper u ≡ done b)
   -- and reach the same verdicts and register, or the same refusal, each with buffers of its own that are long enough.
-  pub same-closing : (t u : Tree) (n m : ℕ) (held other : Bytes) → Called t (Wrote n) held → Called u (Wrote m) other → SameOffers t u
+  pub same-closing : (t u : Tree) (n m : ℕ) (held other : Bytes) → Called t (Wrote n) held → Called u (Wrote m) other
+      → epochOf t ≡ epochOf u → rosterOf t ≡ rosterOf u → SameOffers t u
       → (r next verdicts next′ verdicts′ : Bytes) (a b : Closed) (c : CloseCall r (take n held) a next verdicts) (d : CloseCall r (take m other) b next′ verdicts′)
       → Roomy c → Roomy d → Alike a next verdicts b next′ verdicts′
 
@@ -236,8 +238,8 @@ demand-3 = record {
   given-sheet = λ s e. own.own-offers s e;
   given-spoiled = own.own-spoiled;
   spoiled-is-final = dealt.stays-spoiled;
-  same-bytes = λ e r h t u f g w. bytes.same-bytes e r h t u f g (w .spoiled-alike) (w .in-the-other) (w .in-the-one);
-  same-closing = λ t u n m held other p q h r next verdicts next′ verdicts′ a b c d x y. calls.depots-alike p q h c d x y;
+  same-bytes = bytes.same-bytes;
+  same-closing = λ t u n m held other p q e f h r next verdicts next′ verdicts′ a b c d x y. calls.depots-alike p q e f h c d x y;
 }
 
 -- THE WRONG VERSIONS that document 01 names: each demand, asked of any candidate, rejects them on the examples that it names.
