@@ -1,2 +1,3 @@
 pub mod Exported
 pub mod Settled
+pub mod AsPromised
