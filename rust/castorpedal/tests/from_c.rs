@@ -1,5 +1,7 @@
 //! The header and the library, as a C program uses them: `examples/close.c` is compiled, linked and run.
 
+mod machine;
+
 use std::path::Path;
 use std::process::Command;
 
@@ -7,7 +9,7 @@ use std::process::Command;
 fn closes_example_a_from_c() {
     let top = Path::new(env!("CARGO_MANIFEST_DIR")).join("../..");
     let program = Path::new(env!("CARGO_TARGET_TMPDIR")).join("close_c");
-    let built = Command::new("cc")
+    let built = Command::new(machine::c_compiler())
         .args(["-std=c99", "-Wall", "-Wextra", "-Werror", "-I"])
         .arg(top.join("include"))
         .arg(top.join("examples/close.c"))
@@ -17,7 +19,7 @@ fn closes_example_a_from_c() {
         .output()
         .unwrap();
     assert!(built.status.success(), "{}", String::from_utf8_lossy(&built.stderr));
-    let ran = Command::new(program).output().unwrap();
+    let ran = machine::program(&program).output().unwrap();
     assert!(ran.status.success());
     // commit; lost at 10; the row has another csn than the one seen
     assert_eq!(

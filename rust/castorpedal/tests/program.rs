@@ -1,6 +1,8 @@
 //! The closing program `target/bin/close`, as a depot runs it: what it says where its output cannot be written, how much stack it needs,
 //! and more sheets than 16 bits count.
 
+mod machine;
+
 use std::fs::{read, File};
 use std::io::Write;
 use std::path::{Path, PathBuf};
@@ -17,14 +19,11 @@ fn top() -> PathBuf {
 }
 
 fn close() -> Command {
-    Command::new(top().join("target/bin/close"))
+    machine::program(&top().join("target/bin/close"))
 }
 
-/// The program under a limit of its stack, with no environment, which would lie on the stack too.
 fn close_within(kib: u32) -> Command {
-    let mut shell = Command::new("/bin/sh");
-    shell.env_clear().args(["-c", "ulimit -s \"$1\" && exec \"$2\"", "sh", &kib.to_string()]).arg(top().join("target/bin/close"));
-    shell
+    machine::program_within(kib, &top().join("target/bin/close"))
 }
 
 /// A program that ends before its whole input came leaves the rest of it unread.
