@@ -35,5 +35,6 @@ pub mod OneOffer
 pub mod Meets
 pub mod Kept
 pub mod Closers
+pub mod WrongClosers
 pub mod ClosingWrites
 pub mod FirstFailing

@@ -52,7 +52,9 @@ use Rattle.laws.specs.ClosingWrites as writing
 use Rattle.laws.specs.ClosingWrites.{Writes}
 use Rattle.laws.specs.FirstFailing as reading
 use Rattle.laws.specs.Closers as closers
-use Rattle.laws.specs.Closers.{Closer, Demand2, Keeps, RefusesAlways, AnswersAlike, DoesNothing}
+use Rattle.laws.specs.Closers.{Closer, Demand2, Keeps}
+use Rattle.laws.specs.WrongClosers as wrong
+use Rattle.laws.specs.WrongClosers.{RefusesAlways, AnswersAlike, DoesNothing}
 use Rattle.laws.specs.Gatherers as gatherers
 use Rattle.laws.specs.Gatherers.{Demand3, alwaysSpoiled, firstOffer, countsDeliveries}
 use Rattle.laws.specs.Examples as examples
@@ -258,9 +260,9 @@ pub record WrongVersions : Type 0 where
 
 pub wrong-versions : WrongVersions
 wrong-versions = record {
-  refusing-always = closers.refusing-always-fails;
-  answering-alike = closers.answering-alike-fails;
-  doing-nothing = closers.doing-nothing-fails;
+  refusing-always = wrong.refusing-always-fails;
+  answering-alike = wrong.answering-alike-fails;
+  doing-nothing = wrong.doing-nothing-fails;
   always-spoiled = gatherers.always-spoiled-fails;
   first-offer = gatherers.first-offer-fails;
   deliveries = gatherers.deliveries-fail;
