@@ -1,11 +1,11 @@
 -- WHAT CLOSING WRITES, told of the bytes: the next register reads back, each claimed key has one winner, and each set stands whole or
 -- not at all.
 use Prim.Native.Nat.{ℕ}
-use mathlib.Core.Path.{_≡_, refl, sym, _∙_, ap}
+use mathlib.Core.Path.{_≡_, refl, sym, subst, _∙_, ap}
 use mathlib.Core.Logic.{_⊎_, inl, inr}
 use mathlib.Core.Bool.{Bool, true, false, false≢true}
 use mathlib.Core.List.{List·Memᴰ}
-use mathlib.Core.Option.{none, some}
+use mathlib.Core.Option.{some, Option·some-injective}
 use Rattle.words.specs.Words.{Bytes}
 use Rattle.rules.specs.declared.row.Row.{Row}
 use Rattle.rules.specs.declared.row.Record.{Record}
@@ -19,15 +19,19 @@ use Rattle.laws.specs.ListLaws.{any→, →any}
 use Rattle.laws.specs.Rising.{rising→, rising-one}
 use Rattle.laws.specs.RegisterLaws as register
 use Rattle.laws.specs.SheetLaws as sheet
-use Rattle.laws.specs.Winners.{Claims, Wins, one-winner}
-use Rattle.laws.specs.Commits.{names→, VerdictSays, verdict-key}
+use Rattle.laws.specs.Winners.{Claims, Wins, one-winner, winner-none, winner-is, sheet-apart}
+use Rattle.laws.specs.Commits.{commits-iff, names→, VerdictSays, verdict-key}
 use Rattle.laws.specs.NextSound.{next-sound, next-read}
 use Rattle.laws.specs.Whole.{Stands, Absent, Done, Unnamed, present→, whole, not-at-all, stays-absent, marked, stays}
 use Rattle.laws.specs.Closers.{closes→}
 
 -- a key has exactly one winner: a claimant that precedes all others
 abbrev pub OneWinner : Register → Sheet → ℕ → Type 0
-OneWinner g s k = (v : WriteSet) × Wins g s k v × ((u : WriteSet) → Wins g s k u → u ≡ v)
+OneWinner g s k = (v : WriteSet) × (winner g s k ≡ some v) × Wins g s k v × ((u : WriteSet) → Wins g s k u → u ≡ v)
+
+-- no set claims the key
+abbrev pub Unclaimed : Register → Sheet → ℕ → Type 0
+Unclaimed g s k = (w : WriteSet) → Claims g s k w → ⊥
 
 -- what stands at a key of a set that did not commit
 pub data AtKey (g : Register) (s : Sheet) (k : ℕ) : Type 0 where
@@ -63,9 +67,11 @@ pub record Writes (g : Register) (s : Sheet) (c : Closing) : Type 0 where
   -- each set committed and stands, or did not and nothing of it does
   pub each-set : (w : WriteSet) → List·Memᴰ w s.sets → WholeSet g s w ⊎ NoneOfSet g s w
   -- a remaining row with a winner bears its mark, even if that set lost elsewhere
-  pub marks : (x : Row) (w : WriteSet) → List·Memᴰ x (nextRows g s) → winner g s x.key ≡ some w → x.mark ≡ markIn s w
+  pub marks : (x : Row) (w : WriteSet) → List·Memᴰ x (nextRows g s) → Wins g s x.key w → x.mark ≡ markIn s w
   -- all other rows stay
-  pub others-stay : (row : Row) → List·Memᴰ row g.rows → winner g s row.key ≡ none → List·Memᴰ row (nextRows g s)
+  pub others-stay : (row : Row) → List·Memᴰ row g.rows → Unclaimed g s row.key → List·Memᴰ row (nextRows g s)
+  -- and other keys stay absent
+  pub absent-stay : (k : ℕ) → present g k ≡ false → Unclaimed g s k → Absent g s k
 
 -- ---- what stands at a key
 
@@ -105,6 +111,10 @@ whole-or-none g s sound w m = go (commits g s w) refl
 rows-one : (g : Register) → soundRegister g ≡ true → (x y : Row) → List·Memᴰ x g.rows → List·Memᴰ y g.rows → x.key ≡ y.key → x ≡ y
 rows-one g e x y m k c = rising-one keyOf (rising→ keyOf 0 g.rows (register.soundRegister→ g e .keys) .0) m k c
 
+-- a key that no set claims is named by no committed one
+unclaimed-unnamed : (g : Register) (s : Sheet) → soundSheet s ≡ true → (k : ℕ) → Unclaimed g s k → Unnamed g s k
+unclaimed-unnamed g s sound k h w m c n = h w (record { in-sheet = m; is-fit = commits-iff g s w sound m .told c .is-fit; named = n })
+
 -- WHAT CLOSING WRITES: from a closing that is not refused, by the register and the sheet that its bytes read as
 pub closing-writes : (r t : Bytes) (n m : ℕ) (c : Closing) → closeOutcome r t n m ≡ done c
     → (g : Register) × (s : Sheet) × (readRegister r ≡ some g) × (readSheet t ≡ some s) × Writes g s c
@@ -125,9 +135,26 @@ closing-writes r t n m c p =
         one-row = rows-one (next g s) (next-sound g s soundG soundS (h .follows) (h .few));
         verdict-bytes = ap (λ (k : Closing). k .verdicts) (q .3);
         verdict-says = λ w i. verdict-key g s w soundS i;
-        winners = λ k w d. let v = one-winner g s k w soundS d in (v .0, v .2, v .3);
+        winners = λ k w d. one-winner g s k w soundS d;
         each-set = whole-or-none g s soundS;
-        marks = marked g s;
-        others-stay = stays g s;
+        marks = λ x w m h. marked g s x w m (winner-is g s x.key w (sheet-apart s soundS) h);
+        others-stay = λ row m h. stays g s row m (winner-none g s row.key (sheet-apart s soundS) h);
+        absent-stay = λ k e h. stays-absent g s k e (unclaimed-unnamed g s soundS k h);
       },
     )
+
+-- closing of bytes that read as this register and this sheet is done, and gives this
+pub record Gives (r t : Bytes) (g : Register) (s : Sheet) (c : Closing) : Type 0 where
+  pub reads-register : readRegister r ≡ some g
+  pub reads-sheet : readSheet t ≡ some s
+  pub next-room : ℕ
+  pub room : ℕ
+  pub is-done : closeOutcome r t next-room room ≡ done c
+
+-- what closing writes, by the register and the sheet that were read
+pub gives-writes : (r t : Bytes) (g : Register) (s : Sheet) (c : Closing) → Gives r t g s c → Writes g s c
+gives-writes r t g s c h =
+    let w = closing-writes r t (h .next-room) (h .room) c (h .is-done) in
+    let e : w .0 ≡ g = Option·some-injective _ _ (sym (w .2) ∙ h .reads-register) in
+    let f : w .1 ≡ s = Option·some-injective _ _ (sym (w .3) ∙ h .reads-sheet) in
+    subst (λ (x : Register). Writes x s c) e (subst (λ (x : Sheet). Writes (w .0) x c) f (w .4))

@@ -16,9 +16,13 @@ use Rattle.laws.specs.FormLaws.{→fits}
 use Rattle.laws.specs.Trees.{Tree, opened, put, notice, Gatherer, paper, ends, gatheredIn, runTrees}
 use Rattle.laws.specs.Demand3.{demand-3}
 
--- every tree that the paper does not refuse ends in the sheet that Gathering defines from its offers
+-- demand 3 on one tree: if the paper does not refuse it, it ends in the sheet of its offers
+abbrev pub AsksOn : Gatherer → Tree → Type 0
+AsksOn c t = (b : Bytes) → ends paper t ≡ done b → ends c t ≡ done (sheetBytes (gatheredIn t))
+
+-- DEMAND 3: so on every tree
 abbrev pub Demand3 : Gatherer → Type 0
-Demand3 c = (t : Tree) (b : Bytes) → ends paper t ≡ done b → ends c t ≡ done (sheetBytes (gatheredIn t))
+Demand3 c = (t : Tree) → AsksOn c t
 
 -- THE OPERATIONS OF DOCUMENT 01 MEET IT
 pub paper-meets : Demand3 paper
@@ -106,16 +110,25 @@ byteOf i (refused n) = 0
 byteOf i (done b) = getD b i 0
 
 -- the state byte 1 is not 0
-pub always-spoiled-fails : Demand3 alwaysSpoiled → ⊥
+pub spoiled-on-G : AsksOn alwaysSpoiled exampleG → ⊥
 unfolding runRefused runTrees writing spoiledFor
-always-spoiled-fails d = let z : _≡_ {A = ℕ} 1 0 = ap (byteOf 6) (d exampleG _ refl) in omega arith
+spoiled-on-G d = let z : _≡_ {A = ℕ} 1 0 = ap (byteOf 6) (d _ refl) in omega arith
+
+pub always-spoiled-fails : Demand3 alwaysSpoiled → ⊥
+always-spoiled-fails d = spoiled-on-G (d exampleG)
 
 -- one set is not two
-pub first-offer-fails : Demand3 firstOffer → ⊥
+pub first-offer-on-A : AsksOn firstOffer exampleA → ⊥
 unfolding runRefused runTrees writing isBlank repeated
-first-offer-fails d = let z : _≡_ {A = ℕ} 1 2 = ap (byteOf 7) (d exampleA _ refl) in omega arith
+first-offer-on-A d = let z : _≡_ {A = ℕ} 1 2 = ap (byteOf 7) (d _ refl) in omega arith
+
+pub first-offer-fails : Demand3 firstOffer → ⊥
+first-offer-fails d = first-offer-on-A (d exampleA)
 
 -- the state byte 1 is not 0
-pub deliveries-fail : Demand3 countsDeliveries → ⊥
+pub deliveries-on-G1 : AsksOn countsDeliveries exampleG1 → ⊥
 unfolding runRefused runTrees writing spoiledFor overDelivered delivered
-deliveries-fail d = let z : _≡_ {A = ℕ} 1 0 = ap (byteOf 6) (d exampleG1 _ refl) in omega arith
+deliveries-on-G1 d = let z : _≡_ {A = ℕ} 1 0 = ap (byteOf 6) (d _ refl) in omega arith
+
+pub deliveries-fail : Demand3 countsDeliveries → ⊥
+deliveries-fail d = deliveries-on-G1 (d exampleG1)

@@ -1,7 +1,7 @@
 -- A PROMISE KEPT TELLS THE OUTCOME: from what an operation answers and leaves in its buffers one reads what it did, and from what it did
 -- one reads the answer and every lent byte.
 use Prim.Native.Nat.{ℕ}
-use mathlib.Core.Path.{_≡_, refl, sym, _∙_, ap}
+use mathlib.Core.Path.{_≡_, refl, sym, subst, _∙_, ap}
 use lib.ListN.{length, take, drop}
 use lib.Seq.{take-at, drop-at}
 use Rattle.words.specs.Words.{Bytes}
@@ -11,15 +11,14 @@ use Rattle.rules.specs.declared.answer.Answer.{Answer}
 use Rattle.rules.specs.declared.answer.Answer.the-variants as answer
 use Rattle.rules.specs.declared.answer.Closed.{Closed}
 use Rattle.rules.specs.declared.answer.Closed.the-variants as closed
-use Rattle.rules.specs.declared.answer.Checked.{Checked}
 use Rattle.rules.specs.declared.answer.Checked.the-variants as checked
 use Rattle.rules.specs.Answers.{refusalNumber}
 use Rattle.rules.specs.ReadCheck.{Finding, passes, fails}
 use Rattle.rules.specs.Refused.{Outcome, refused, done, Closing}
 use Rattle.rules.specs.Promises.{over, told, left, Promise, toldClosing, leftRegister, leftVerdicts, ClosePromise, toldFinding, CheckPromise}
-use Rattle.rules.specs.Applies.{Asked, RefusedExactly}
-use Rattle.rules.specs.Settled.{refusal-some, reason-some, same-reason, settled, settled-closing, settled-check}
-use Rattle.laws.specs.Meets.{refuses, writes, refuses-closing, writes-closing}
+use Rattle.rules.specs.Applies.{Asked, Smallest, RefusedExactly}
+use Rattle.rules.specs.Settled.{Four, same-refusal, refusal-some, reason-some, same-reason, settled, settled-closing}
+use Rattle.laws.specs.Meets.{writes, refuses-closing, writes-closing}
 
 -- never refused with 0, which is the number of a success
 abbrev pub Numbered : {A : Type 0} → Outcome A → Type 0
@@ -28,6 +27,10 @@ Numbered o = o ≡ refused 0 → ⊥
 -- what is refused exactly when the table says is never refused with 0
 pub numbered : {A : Type 0} {q : Asked} {o : Outcome A} {a : A} → RefusedExactly q o a → Numbered o
 numbered h e = let w = h .only-when 0 e in refusal-some (w .0) (w .1)
+
+-- the refusal that it answers is the smallest that applies
+pub refused-smallest : {A : Type 0} {q : Asked} {o : Outcome A} {a : A} {x : Refusal} → RefusedExactly q o a → o ≡ refused (refusalNumber x) → Smallest q x
+refused-smallest {q} {x} h e = let w = h .only-when (refusalNumber x) e in subst (Smallest q) (same-refusal (w .0) x (sym (w .1))) (w .2)
 
 -- what is written stands at the start of the buffer
 pub written : (old new : Bytes) (n : ℕ) {after : Bytes} → n ≡ length new → after ≡ over old new → new ≡ take n after
@@ -73,9 +76,19 @@ module _ (o : Outcome Bytes) {before after : Bytes} where
   pub kept-wrote : {b : Bytes} {a : Answer} → o ≡ done b → Promise o before a after → (a ≡ answer.Wrote (length b)) × (after ≡ over before b)
   kept-wrote {b} e p = settled o before p (writes o b before (over before b) (length b) e refl refl)
 
-  -- refused, it answers that refusal, and leaves the buffer
-  pub kept-refuses : {x : Refusal} {a : Answer} → o ≡ refused (refusalNumber x) → Promise o before a after → (a ≡ answer.Refused x) × (after ≡ before)
-  kept-refuses {x} e p = settled o before p (refuses o x before e)
+-- the length of an answer
+abbrev lengthIn : Answer → ℕ
+lengthIn (answer.Wrote n) = n
+lengthIn (answer.Refused x) = 0
+
+-- the two lengths of closing's
+abbrev lengthsIn : Closed → ℕ × ℕ
+lengthsIn (closed.Wrote i j) = (i, j)
+lengthsIn (closed.Refused x) = (0, 0)
+
+-- THE LENGTH THAT IT ANSWERS IS THAT OF THE RESULT
+pub kept-length : (o : Outcome Bytes) {before after : Bytes} {n : ℕ} → Numbered o → Promise o before (answer.Wrote n) after → n ≡ length (take n after)
+kept-length o h p = ap lengthIn (kept-wrote o (kept-done o h p) p .0)
 
 -- ---- closing
 
@@ -123,10 +136,11 @@ module _ (o : Outcome Closing) {next next′ verdicts verdicts′ : Bytes} where
       → (a ≡ closed.Refused x) × (next′ ≡ next) × (verdicts′ ≡ verdicts)
   kept-refuses-closing {x} e p = settled-closing o next verdicts p (refuses-closing o x next verdicts e)
 
--- ---- read check
+pub kept-lengths : (o : Outcome Closing) {next next′ verdicts verdicts′ : Bytes} {i j : ℕ} → Numbered o → ClosePromise o next verdicts (closed.Wrote i j) next′ verdicts′
+    → (i ≡ length (take i next′)) × (j ≡ length (take j verdicts′))
+kept-lengths o h p = let e = kept-wrote-closing o (kept-done-closing o h p) p .0 in (ap (λ (a : Closed). lengthsIn a .0) e, ap (λ (a : Closed). lengthsIn a .1) e)
 
-abbrev Four : Type 0
-Four = ℕ × ℕ × ℕ × ℕ
+-- ---- read check
 
 module _ (o : Outcome Finding) where
   -- WHERE THE READ CHECK ANSWERS PASS, it found none that fails
@@ -162,16 +176,3 @@ module _ (o : Outcome Finding) where
       go (refused k) e p = e ∙ ap refused (sym (ap (λ (y : Four). y .0) (p .answered)))
       go (done passes) e p = absurd (refusal-some x (sym (ap (λ (y : Four). y .0) (p .answered))))
       go (done (fails i k r)) e p = absurd (refusal-some x (sym (ap (λ (y : Four). y .0) (p .answered))))
-
-  -- AND BACK
-  pub kept-passes : {a : Checked} → o ≡ done passes → CheckPromise o a → a ≡ checked.Pass
-  unfolding toldFinding
-  kept-passes e p = settled-check o p (rw e (record { answered = refl }))
-
-  pub kept-found : {i k : ℕ} {r : Reason} {a : Checked} → o ≡ done (fails i k r) → CheckPromise o a → a ≡ checked.Fails i k r
-  unfolding toldFinding
-  kept-found e p = settled-check o p (rw e (record { answered = refl }))
-
-  pub kept-refuses-check : {x : Refusal} {a : Checked} → o ≡ refused (refusalNumber x) → CheckPromise o a → a ≡ checked.Refused x
-  unfolding toldFinding
-  kept-refuses-check e p = settled-check o p (rw e (record { answered = refl }))

@@ -3,11 +3,13 @@
 -- its promise of that outcome (`rules` `Promises`).
 use Prim.Native.Nat.{ℕ}
 use mathlib.Core.Path.{_≡_, ap, ap₂}
+use mathlib.Core.Logic.{_⊎_}
 use mathlib.Core.Bool.{true, false}
 use mathlib.Core.List.{List, List·Memᴰ}
 use mathlib.Core.Option.{Option, none, some}
 use lib.ListN.{length, take, drop}
 use Rattle.words.specs.Words.{Bytes}
+use Rattle.rules.specs.declared.row.Row.{Row}
 use Rattle.rules.specs.declared.row.Read.{Read}
 use Rattle.rules.specs.declared.answer.Refusal.{Refusal}
 use Rattle.rules.specs.declared.answer.Answer.{Answer}
@@ -18,13 +20,14 @@ use Rattle.rules.specs.declared.answer.Checked.{Checked}
 use Rattle.rules.specs.declared.answer.Checked.the-variants as checked
 use Rattle.rules.specs.declared.answer.Reason.{Reason}
 use Rattle.rules.specs.Answers.{refusalNumber}
+use Rattle.rules.specs.Lists.{flat}
 use Rattle.rules.specs.Numbers.{masterOf}
 use Rattle.rules.specs.Register.{Register, soundRegister, registerBytes, registerIn, readRegister}
 use Rattle.rules.specs.Sheet.{WriteSet, Sheet, soundSheet, sheetBytes, sheetIn, readSheet, offeredRecords}
 use Rattle.rules.specs.Gathering.{Offer, aSet, aNotice, emptySheet, spoiledSheet, gathered, offersOf, withOffer, joined}
-use Rattle.rules.specs.Closing.{commits}
+use Rattle.rules.specs.Closing.{present, markIn, winner, verdict, commits, nextRows, next, verdicts}
 use Rattle.rules.specs.ReadCheck.{Finding, passes, fails, checkFrom, readsOf}
-use Rattle.rules.specs.Refused.{Outcome, refused, done, Closing, closing, sheetRoom, openOutcome, putOutcome, noticeOutcome, joinSheets, joinOutcome, offerTo, offeredSet, offeredNotice, closeSheet, closeOutcome, checkReads, readsOutcome, checkOutcome}
+use Rattle.rules.specs.Refused.{Outcome, refused, done, Closing, closing, sheetRoom, verdictBytes, openOutcome, putOutcome, noticeOutcome, joinSheets, joinOutcome, offerTo, offeredSet, offeredNotice, closeSheet, closeOutcome, checkReads, readsOutcome, checkOutcome}
 use Rattle.rules.specs.Promises.{Promise, ClosePromise, CheckPromise}
 use Rattle.rules.specs.Applies.{Asked, toOpen, toPut, toNotice, toJoin, toClose, toCheck, Smallest, RefusedExactly}
 use Rattle.rules.specs.Settled as settled
@@ -35,31 +38,35 @@ use Rattle.laws.specs.SheetLaws as sheet
 use Rattle.laws.specs.GatherLaws as gathering
 use Rattle.laws.specs.GatherSound.{Head}
 use Rattle.laws.specs.OwnOffers as own
-use Rattle.laws.specs.Trees.{Number, Tree, paper, ends, epochOf, rosterOf, gatheredIn, Within}
+use Rattle.laws.specs.Trees.{Number, Tree, paper, ends, offersIn, epochOf, rosterOf, spoiledIn, allOpened, gatheredIn, Within}
 use Rattle.laws.specs.FairTrees.{GoodSet, GoodNotice, FairTree}
 use Rattle.laws.specs.NeverStuck as stuck
 use Rattle.laws.specs.NeverStuck.{JustWhen}
 use Rattle.laws.specs.Demand3 as dealt
 use Rattle.laws.specs.SameBytes as bytes
 use Rattle.laws.specs.SameBytes.{SameOffers}
+use Rattle.laws.specs.SameClosing as rooms
+use Rattle.laws.specs.SameClosing.{LongEnough}
+use Rattle.laws.specs.Winners.{Claims, Wins}
 use Rattle.laws.specs.Commits as committing
-use Rattle.laws.specs.Commits.{Committed}
+use Rattle.laws.specs.Commits.{Committed, VerdictSays}
 use Rattle.laws.specs.NotRefused.{setBy}
 use Rattle.laws.specs.Exactly as exactly
 use Rattle.laws.specs.Exactly.{entriesOf}
 use Rattle.laws.specs.Kept as kept
 use Rattle.laws.specs.ClosingWrites as writing
-use Rattle.laws.specs.ClosingWrites.{Writes}
+use Rattle.laws.specs.ClosingWrites.{Unclaimed, WholeSet, NoneOfSet, Writes, Gives}
+use Rattle.laws.specs.Whole.{Absent}
 use Rattle.laws.specs.FirstFailing as reading
 use Rattle.laws.specs.Closers as closers
 use Rattle.laws.specs.Closers.{Closer, Demand2, Keeps}
 use Rattle.laws.specs.WrongClosers as wrong
-use Rattle.laws.specs.WrongClosers.{RefusesAlways, AnswersAlike, DoesNothing}
+use Rattle.laws.specs.WrongClosers.{RefusesAlways, AnswersAlike, DoesNothing, N, Rejects}
 use Rattle.laws.specs.Gatherers as gatherers
-use Rattle.laws.specs.Gatherers.{Demand3, alwaysSpoiled, firstOffer, countsDeliveries}
+use Rattle.laws.specs.Gatherers.{Demand3, alwaysSpoiled, firstOffer, countsDeliveries, exampleA, exampleG, exampleG1}
 use Rattle.laws.specs.Examples as examples
 use Rattle.merge.specs.Calls as calls
-use Rattle.merge.specs.Calls.{Called, CloseCall, Roomy, Alike}
+use Rattle.merge.specs.Calls.{Called, CloseCall, Roomy, writtenNext, writtenVerdicts}
 
 -- DEMAND 1: every public operation ends on all inputs, examines forms itself, refuses by a fixed number, and a refusal writes nothing.
 -- (That a function ends, on all inputs and without a precondition, is what the checker proves of its code.)
@@ -82,7 +89,7 @@ pub record FirstDemand : Type 0 where
       → RefusedExactly (toCheck register mode lsn (some entries)) (readsOutcome register mode lsn entries) (checkFrom (registerIn register) mode lsn 0 entries)
   -- What the read check answers is the first failing entry, or that none fails.
   pub first-failing : (g : Register) (mode lsn : ℕ) (entries : List Read) → reading.Tells g mode lsn 0 entries (checkFrom g mode lsn 0 entries)
-  -- It examines forms itself: what is no register is refused with 1, what is no sheet with 2, before all else.
+  -- It examines forms itself: what is no register is refused with 1, what is no sheet with 2, an ill-formed offer with 3, each before what has a larger number.
   pub close-examines-register : (register sheet : Bytes) (nextRoom room : ℕ) → readRegister register ≡ none → closeOutcome register sheet nextRoom room ≡ refused 1
   pub check-examines-register : (register : Bytes) (mode lsn : ℕ) (keys csns : List ℕ) → readRegister register ≡ none → checkOutcome register mode lsn keys csns ≡ refused 1
   pub reads-examines-register : (register : Bytes) (mode lsn : ℕ) (entries : List Read) → readRegister register ≡ none → readsOutcome register mode lsn entries ≡ refused 1
@@ -92,18 +99,27 @@ pub record FirstDemand : Type 0 where
   pub notice-examines-sheet : (sheet : Bytes) (epoch master number room : ℕ) → readSheet sheet ≡ none → noticeOutcome sheet epoch master number room ≡ refused 2
   pub join-examines-first : (a b : Bytes) (room : ℕ) → readSheet a ≡ none → joinOutcome a b room ≡ refused 2
   pub join-examines-second : (a b : Bytes) (room : ℕ) (s : Sheet) → readSheet a ≡ some s → readSheet b ≡ none → joinOutcome a b room ≡ refused 2
-  -- It refuses by a fixed number: a promise kept tells the outcome,
+  pub put-examines-set : (sheet : Bytes) (epoch sen csn : ℕ) (records : Bytes) (room : ℕ) (s : Sheet) → readSheet sheet ≡ some s → offeredSet epoch sen csn records ≡ none
+      → putOutcome sheet epoch sen csn records room ≡ refused 3
+  pub notice-examines-notice : (sheet : Bytes) (epoch master number room : ℕ) (s : Sheet) → readSheet sheet ≡ some s → offeredNotice epoch master number ≡ none
+      → noticeOutcome sheet epoch master number room ≡ refused 3
+  -- It refuses by a fixed number: a promise kept tells the outcome. Success means that the named length was written, and the bytes after it stayed;
   pub success-tells : (q : Asked) (o : Outcome Bytes) (result before after : Bytes) (n : ℕ) → RefusedExactly q o result → Promise o before (Wrote n) after
-      → o ≡ done (take n after)
-  pub refusal-tells : (o : Outcome Bytes) (before after : Bytes) (x : Refusal) → Promise o before (Refused x) after → o ≡ refused (refusalNumber x)
+      → (o ≡ done (take n after)) × (n ≡ length (take n after)) × (drop n after ≡ drop n before)
   pub closing-success-tells : (q : Asked) (o : Outcome Closing) (result : Closing) (next verdicts next′ verdicts′ : Bytes) (i j : ℕ) → RefusedExactly q o result
-      → ClosePromise o next verdicts (closed.Wrote i j) next′ verdicts′ → o ≡ done (record { register = take i next′; verdicts = take j verdicts′ })
-  pub closing-refusal-tells : (o : Outcome Closing) (next verdicts next′ verdicts′ : Bytes) (x : Refusal)
-      → ClosePromise o next verdicts (closed.Refused x) next′ verdicts′ → o ≡ refused (refusalNumber x)
+      → ClosePromise o next verdicts (closed.Wrote i j) next′ verdicts′
+      → (o ≡ done (record { register = take i next′; verdicts = take j verdicts′ }))
+      × (i ≡ length (take i next′)) × (drop i next′ ≡ drop i next) × (j ≡ length (take j verdicts′)) × (drop j verdicts′ ≡ drop j verdicts)
   pub pass-tells : (q : Asked) (o : Outcome Finding) (result : Finding) → RefusedExactly q o result → CheckPromise o checked.Pass → o ≡ done passes
   pub failure-tells : (o : Outcome Finding) (i k : ℕ) (reason : Reason) → CheckPromise o (checked.Fails i k reason) → o ≡ done (fails i k reason)
-  pub check-refusal-tells : (o : Outcome Finding) (x : Refusal) → CheckPromise o (checked.Refused x) → o ≡ refused (refusalNumber x)
-  -- and settles the answer and every lent byte.
+  -- a refusal, that it is the smallest that applies.
+  pub refusal-tells : (q : Asked) (o : Outcome Bytes) (result before after : Bytes) (x : Refusal) → RefusedExactly q o result → Promise o before (Refused x) after
+      → (o ≡ refused (refusalNumber x)) × Smallest q x
+  pub closing-refusal-tells : (q : Asked) (o : Outcome Closing) (result : Closing) (next verdicts next′ verdicts′ : Bytes) (x : Refusal) → RefusedExactly q o result
+      → ClosePromise o next verdicts (closed.Refused x) next′ verdicts′ → (o ≡ refused (refusalNumber x)) × Smallest q x
+  pub check-refusal-tells : (q : Asked) (o : Outcome Finding) (result : Finding) (x : Refusal) → RefusedExactly q o result → CheckPromise o (checked.Refused x)
+      → (o ≡ refused (refusalNumber x)) × Smallest q x
+  -- And it settles the answer and every lent byte.
   pub settled : (o : Outcome Bytes) (before after after′ : Bytes) (a b : Answer) → Promise o before a after → Promise o before b after′ → (a ≡ b) × (after ≡ after′)
   pub settled-closing : (o : Outcome Closing) (next verdicts n n′ v v′ : Bytes) (a b : Closed)
       → ClosePromise o next verdicts a n v → ClosePromise o next verdicts b n′ v′ → (a ≡ b) × (n ≡ n′) × (v ≡ v′)
@@ -112,10 +128,6 @@ pub record FirstDemand : Type 0 where
   pub refusal-writes-nothing : (o : Outcome Bytes) (before after : Bytes) (x : Refusal) → Promise o before (Refused x) after → after ≡ before
   pub refused-closing-writes-nothing : (o : Outcome Closing) (next verdicts next′ verdicts′ : Bytes) (x : Refusal)
       → ClosePromise o next verdicts (closed.Refused x) next′ verdicts′ → (next′ ≡ next) × (verdicts′ ≡ verdicts)
-  -- Success writes the named length, and the bytes after it stay.
-  pub bytes-after-stay : (o : Outcome Bytes) (before after : Bytes) (n : ℕ) → Promise o before (Wrote n) after → drop n after ≡ drop n before
-  pub closing-bytes-after-stay : (o : Outcome Closing) (next verdicts next′ verdicts′ : Bytes) (i j : ℕ)
-      → ClosePromise o next verdicts (closed.Wrote i j) next′ verdicts′ → (drop i next′ ≡ drop i next) × (drop j verdicts′ ≡ drop j verdicts)
 
 pub demand-1 : FirstDemand
 unfolding closeOutcome closeSheet checkOutcome readsOutcome checkReads putOutcome noticeOutcome offerTo joinOutcome joinSheets
@@ -136,42 +148,66 @@ demand-1 = record {
   notice-examines-sheet = λ s e m n room h. ap (λ (a : Option Sheet). offerTo a (offeredNotice e m n) e m room) h;
   join-examines-first = λ a b room e. ap (λ (x : Option Sheet). joinSheets x (readSheet b) room) e;
   join-examines-second = λ a b room s e f. ap₂ (λ (x y : Option Sheet). joinSheets x y room) e f;
-  success-tells = λ q o result before after n e p. kept.kept-done o (kept.numbered e) p;
-  refusal-tells = λ o before after x p. kept.kept-refused o p .0;
-  closing-success-tells = λ q o result next verdicts next′ verdicts′ i j e p. kept.kept-done-closing o (kept.numbered e) p;
-  closing-refusal-tells = λ o next verdicts next′ verdicts′ x p. kept.kept-refused-closing o p .0;
+  put-examines-set = λ b e sen csn rs room s h k. ap₂ (λ (a : Option Sheet) (o : Option Offer). offerTo a o e (masterOf csn) room) h k;
+  notice-examines-notice = λ b e m n room s h k. ap₂ (λ (a : Option Sheet) (o : Option Offer). offerTo a o e m room) h k;
+  success-tells = λ q o result before after n e p. (kept.kept-done o (kept.numbered e) p, kept.kept-length o (kept.numbered e) p, kept.kept-after o p);
+  closing-success-tells = λ q o result next verdicts next′ verdicts′ i j e p.
+      let l = kept.kept-lengths o (kept.numbered e) p in
+      let a = kept.kept-after-closing o p in
+      (kept.kept-done-closing o (kept.numbered e) p, l .0, a .0, l .1, a .1);
   pass-tells = λ q o result e p. kept.kept-pass o (kept.numbered e) p;
   failure-tells = λ o i k reason p. kept.kept-fails o p;
-  check-refusal-tells = λ o x p. kept.kept-refused-check o p;
+  refusal-tells = λ q o result before after x e p. let k = kept.kept-refused o p .0 in (k, kept.refused-smallest e k);
+  closing-refusal-tells = λ q o result next verdicts next′ verdicts′ x e p. let k = kept.kept-refused-closing o p .0 in (k, kept.refused-smallest e k);
+  check-refusal-tells = λ q o result x e p. let k = kept.kept-refused-check o p in (k, kept.refused-smallest e k);
   settled = λ o before after after′ a b p q. settled.settled o before p q;
   settled-closing = λ o next verdicts n n′ v v′ a b p q. settled.settled-closing o next verdicts p q;
   settled-check = λ o a b p q. settled.settled-check o p q;
   refusal-writes-nothing = λ o before after x p. kept.kept-refused o p .1;
   refused-closing-writes-nothing = λ o next verdicts next′ verdicts′ x p. let k = kept.kept-refused-closing o p in (k .1, k .2);
-  bytes-after-stay = λ o before after n p. kept.kept-after o p;
-  closing-bytes-after-stay = λ o next verdicts next′ verdicts′ i j p. kept.kept-after-closing o p;
 }
 
 -- DEMAND 2: closing gives exactly the verdicts and next register of document 01's rule. Sheets and registers read back as written, one
 -- encoding each.
 pub record SecondDemand : Type 0 where
-  -- Closing that is done gives the next register and the verdicts of what its bytes read as: each claimed key has one winner, and each set
-  -- stands whole or not at all.
+  -- Closing that is done gives what is written by the register and the sheet that its bytes read as, all of what the next fields say.
   pub closing-gives : (r t : Bytes) (n m : ℕ) (c : Closing) → closeOutcome r t n m ≡ done c
       → (g : Register) × (s : Sheet) × (readRegister r ≡ some g) × (readSheet t ≡ some s) × Writes g s c
-  -- So a call of close that answers success wrote them, in the lengths that it answers.
+  -- The verdicts: one a set, in csn order; commit, or the smallest key lost or found wrong.
+  pub verdicts-written : (r t : Bytes) (g : Register) (s : Sheet) (c : Closing) → Gives r t g s c → c .verdicts ≡ flat verdictBytes (verdicts g s)
+  pub verdict-says : (r t : Bytes) (g : Register) (s : Sheet) (c : Closing) → Gives r t g s c → (w : WriteSet) → List·Memᴰ w s.sets → VerdictSays g s w (verdict g s w)
+  -- The next register: its bytes read back as such, with one row a key.
+  pub next-register : (r t : Bytes) (g : Register) (s : Sheet) (c : Closing) → Gives r t g s c → readRegister (c .register) ≡ some (next g s)
+  pub one-row-a-key : (r t : Bytes) (g : Register) (s : Sheet) (c : Closing) → Gives r t g s c
+      → (x y : Row) → List·Memᴰ x (nextRows g s) → List·Memᴰ y (nextRows g s) → x.key ≡ y.key → x ≡ y
+  -- By document 01's rule: each claimed key has exactly one winner, a claimant that precedes all others;
+  pub one-winner : (r t : Bytes) (g : Register) (s : Sheet) (c : Closing) → Gives r t g s c → (k : ℕ) (w : WriteSet) → Claims g s k w
+      → (v : WriteSet) × (winner g s k ≡ some v) × Wins g s k v × ((u : WriteSet) → Wins g s k u → u ≡ v)
+  -- a set commits just when it is fit and precedes every other fit set on each of its keys;
+  pub commits-just-when : (g : Register) (s : Sheet) (w : WriteSet) → soundSheet s ≡ true → List·Memᴰ w s.sets → Says (commits g s w) (Committed g s w)
+  -- each set committed, and every record of it stands, or it did not, and what stands at each of its keys is there by another set that
+  -- committed, or is the old row but for the mark, or is absent as before;
+  pub whole-or-none : (r t : Bytes) (g : Register) (s : Sheet) (c : Closing) → Gives r t g s c → (w : WriteSet) → List·Memᴰ w s.sets → WholeSet g s w ⊎ NoneOfSet g s w
+  -- a remaining row with a winner bears its mark, even if that set lost elsewhere; rows and absent keys that no set claims stay.
+  pub winner-marks : (r t : Bytes) (g : Register) (s : Sheet) (c : Closing) → Gives r t g s c
+      → (x : Row) (w : WriteSet) → List·Memᴰ x (nextRows g s) → Wins g s x.key w → x.mark ≡ markIn s w
+  pub others-stay : (r t : Bytes) (g : Register) (s : Sheet) (c : Closing) → Gives r t g s c
+      → (row : Row) → List·Memᴰ row g.rows → Unclaimed g s row.key → List·Memᴰ row (nextRows g s)
+  pub absent-stay : (r t : Bytes) (g : Register) (s : Sheet) (c : Closing) → Gives r t g s c → (k : ℕ) → present g k ≡ false → Unclaimed g s k → Absent g s k
+  -- So a call of close that answers success left what closing gives, in the lengths that it answers,
   pub closing-writes : (r t next verdicts : Bytes) (i j : ℕ) → CloseCall r t (closed.Wrote i j) next verdicts
-      → (g : Register) × (s : Sheet) × (readRegister r ≡ some g) × (readSheet t ≡ some s) × Writes g s (record { register = take i next; verdicts = take j verdicts })
-  -- One that answers a refusal met no smaller one that applies, and left both buffers as they were.
+      → (i ≡ length (take i next)) × (j ≡ length (take j verdicts))
+      × ((g : Register) × (s : Sheet) × Gives r t g s (record { register = take i next; verdicts = take j verdicts }))
+  -- and one that answers a refusal met no smaller one that applies, and left both buffers as they were.
   pub closing-refuses : (r t next verdicts : Bytes) (x : Refusal) (c : CloseCall r t (closed.Refused x) next verdicts)
       → Smallest (toClose r t (length (c .lent-next)) (length (c .lent-verdicts))) x × (next ≡ c .lent-next) × (verdicts ≡ c .lent-verdicts)
-  -- A set commits just when it is fit and precedes every other fit set on each of its keys.
-  pub commits-just-when : (g : Register) (s : Sheet) (w : WriteSet) → soundSheet s ≡ true → List·Memᴰ w s.sets → Says (commits g s w) (Committed g s w)
   -- Asked of any closing: who keeps the promise of close meets the demand, and who meets it keeps the promise.
   pub keeps-meets : (c : Closer) → Keeps c → Demand2 c
   pub meets-keeps : (c : Closer) → Demand2 c → Keeps c
-  -- The same sheet closed again on its result is refused with 4.
+  -- The same sheet closed again on its result is refused with 4, and so is every sheet on snapshot 4,294,967,295.
   pub closed-again : (r t : Bytes) (n m : ℕ) (c : Closing) → closeOutcome r t n m ≡ done c → (n′ m′ : ℕ) → closeOutcome (c .register) t n′ m′ ≡ refused 4
+  pub none-follows : (r t : Bytes) (n m : ℕ) (g : Register) (s : Sheet) → readRegister r ≡ some g → readSheet t ≡ some s → g.snapshot ≡ 4294967295
+      → closeOutcome r t n m ≡ refused 4
   -- Registers read back as written, and have one encoding.
   pub register-reads-back : (g : Register) → soundRegister g ≡ true → readRegister (registerBytes g) ≡ some g
   pub register-one-encoding : (a b : Bytes) (g : Register) → readRegister a ≡ some g → readRegister b ≡ some g → a ≡ b
@@ -182,12 +218,22 @@ pub record SecondDemand : Type 0 where
 pub demand-2 : SecondDemand
 demand-2 = record {
   closing-gives = writing.closing-writes;
+  verdicts-written = λ r t g s c h. writing.gives-writes r t g s c h .verdict-bytes;
+  verdict-says = λ r t g s c h. writing.gives-writes r t g s c h .verdict-says;
+  next-register = λ r t g s c h. writing.gives-writes r t g s c h .next-register;
+  one-row-a-key = λ r t g s c h. writing.gives-writes r t g s c h .one-row;
+  one-winner = λ r t g s c h. writing.gives-writes r t g s c h .winners;
+  commits-just-when = committing.commits-iff;
+  whole-or-none = λ r t g s c h. writing.gives-writes r t g s c h .each-set;
+  winner-marks = λ r t g s c h. writing.gives-writes r t g s c h .marks;
+  others-stay = λ r t g s c h. writing.gives-writes r t g s c h .others-stay;
+  absent-stay = λ r t g s c h. writing.gives-writes r t g s c h .absent-stay;
   closing-writes = λ r t next verdicts i j c. calls.close-writes c;
   closing-refuses = λ r t next verdicts x c. calls.close-refuses c;
-  commits-just-when = committing.commits-iff;
   keeps-meets = closers.keeps-meets;
   meets-keeps = closers.settles;
   closed-again = closers.closed-again;
+  none-follows = closers.none-follows;
   register-reads-back = register.read-written;
   register-one-encoding = register.one-encoding;
   sheet-reads-back = sheet.read-written;
@@ -198,21 +244,24 @@ demand-2 = record {
 -- that Gathering defines from the distinct offers; so all depots reach the same verdicts and register, or the same refusal.
 pub record ThirdDemand : Type 0 where
   -- However they are dealt: a tree of calls of open, put, notice and join, of any shape, on sheets opened or given. Where the last call
-  -- answers success, it left the bytes of the sheet that Gathering defines from the offers.
-  pub final-sheet : (t : Tree) (n : ℕ) (after : Bytes) → Called t (Wrote n) after → take n after ≡ sheetBytes (gatheredIn t)
+  -- answers success, it left the bytes of the sheet that Gathering defines from the offers, and answered their length.
+  pub final-sheet : (t : Tree) (n : ℕ) (after : Bytes) → Called t (Wrote n) after → (n ≡ length (sheetBytes (gatheredIn t))) × (take n after ≡ sheetBytes (gatheredIn t))
   -- It does, if epoch and roster are one throughout and such that a sheet can have them, the offers are well-formed and of masters in the
   -- roster, and each buffer is at least 9,240 long: gathering never gets stuck.
-  pub never-refused : (e r : ℕ) → Head e r → (t : Tree) (a : Answer) (after : Bytes) → FairTree e r t → Called t a after → (n : ℕ) × (a ≡ Wrote n) × (take n after ≡ sheetBytes (gatheredIn t))
+  pub never-refused : (e r : ℕ) → Head e r → (t : Tree) (a : Answer) (after : Bytes) → FairTree e r t → Called t a after → a ≡ Wrote (length (sheetBytes (gatheredIn t)))
   pub never-stuck : (e r : ℕ) → Head e r → (t : Tree) → FairTree e r t → ends paper t ≡ done (sheetBytes (gatheredIn t))
   -- And only then.
-  pub only-fair : (t : Tree) (b : Bytes) → ends paper t ≡ done b → FairTree (epochOf t) (rosterOf t) t
+  pub only-fair : (t : Tree) (b : Bytes) → ends paper t ≡ done b → Head (epochOf t) (rosterOf t) × FairTree (epochOf t) (rosterOf t) t
   -- An offer is so just when putting it into the freshly opened sheet is not refused.
   pub opened-fresh : (e r : ℕ) → Head e r → openOutcome e r sheetRoom ≡ done (sheetBytes (emptySheet e r))
   pub good-set : (e r : ℕ) → Head e r → (sen : ℕ) (csn : Number 8) (b : Bytes)
       → JustWhen (GoodSet e r sen csn.value b) ((c : Bytes) × (putOutcome (sheetBytes (emptySheet e r)) e sen csn.value b sheetRoom ≡ done c))
   pub good-notice : (e r : ℕ) → Head e r → (m n : ℕ)
       → JustWhen (GoodNotice e r m n) ((c : Bytes) × (noticeOutcome (sheetBytes (emptySheet e r)) e m n sheetRoom ≡ done c))
-  -- From the distinct offers: repeats and order make no difference.
+  -- The sheet that Gathering defines: where all sheets were opened, or none that was given is spoiled, the gathered sheet of all offers;
+  pub from-opened : (t : Tree) → allOpened t ≡ true → spoiledIn t ≡ false
+  pub from-offers : (t : Tree) → spoiledIn t ≡ false → gatheredIn t ≡ gathered (epochOf t) (rosterOf t) (offersIn t)
+  -- from the distinct offers: repeats and order make no difference.
   pub distinct-offers : (e r : ℕ) (xs ys : List Offer) → Sub xs ys → Sub ys xs → gathered e r xs ≡ gathered e r ys
   -- A sheet that is given is the sheet of its own offers, or it is spoiled; and spoiled is final.
   pub given-sheet : (s : Sheet) → soundSheet s ≡ true → s.spoiled ≡ false → gathered s.epoch s.roster (offersOf s) ≡ s
@@ -221,38 +270,57 @@ pub record ThirdDemand : Type 0 where
       → b ≡ sheetBytes (spoiledSheet (epochOf u) (rosterOf u))
   -- So all depots end in the same bytes,
   pub same-bytes : (e r : ℕ) → Head e r → (t u : Tree) → FairTree e r t → FairTree e r u → SameOffers t u → (b : Bytes) × (ends paper t ≡ done b) × (ends paper u ≡ done b)
+  pub same-left : (t u : Tree) (n m : ℕ) (held other : Bytes) → Called t (Wrote n) held → Called u (Wrote m) other
+      → epochOf t ≡ epochOf u → rosterOf t ≡ rosterOf u → SameOffers t u → (n ≡ m) × (take n held ≡ take m other)
   -- and reach the same verdicts and register, or the same refusal, each with buffers of its own that are long enough.
-  pub same-closing : (t u : Tree) (n m : ℕ) (held other : Bytes) → Called t (Wrote n) held → Called u (Wrote m) other
+  pub same-closing : (e r : ℕ) → Head e r → (t u : Tree) → FairTree e r t → FairTree e r u → SameOffers t u
+      → (g : Bytes) (n m n′ m′ : ℕ) → LongEnough n m → LongEnough n′ m′
+      → (a : Bytes) × (b : Bytes) × (ends paper t ≡ done a) × (ends paper u ≡ done b) × (closeOutcome g a n m ≡ closeOutcome g b n′ m′)
+  pub same-closed : (t u : Tree) (n m : ℕ) (held other : Bytes) → Called t (Wrote n) held → Called u (Wrote m) other
       → epochOf t ≡ epochOf u → rosterOf t ≡ rosterOf u → SameOffers t u
       → (r next verdicts next′ verdicts′ : Bytes) (a b : Closed) (c : CloseCall r (take n held) a next verdicts) (d : CloseCall r (take m other) b next′ verdicts′)
-      → Roomy c → Roomy d → Alike a next verdicts b next′ verdicts′
+      → Roomy c → Roomy d → (a ≡ b) × (writtenNext a next ≡ writtenNext b next′) × (writtenVerdicts a verdicts ≡ writtenVerdicts b verdicts′)
 
 pub demand-3 : ThirdDemand
 demand-3 = record {
   final-sheet = λ t n after c. calls.calls-gather c;
   never-refused = calls.calls-never-refused;
   never-stuck = stuck.never-stuck;
-  only-fair = stuck.fair-ended;
+  only-fair = λ t b p. (dealt.ended t b p .head, stuck.fair-ended t b p);
   opened-fresh = stuck.opens-fresh;
   good-set = stuck.good-set-put;
   good-notice = stuck.good-notice-put;
+  from-opened = dealt.opened-unspoiled;
+  from-offers = dealt.unspoiled;
   distinct-offers = gathering.same-offers;
   given-sheet = λ s e. own.own-offers s e;
   given-spoiled = own.own-spoiled;
   spoiled-is-final = dealt.stays-spoiled;
   same-bytes = bytes.same-bytes;
-  same-closing = λ t u n m held other p q e f h r next verdicts next′ verdicts′ a b c d x y. calls.depots-alike p q e f h c d x y;
+  same-left = λ t u n m held other p q e f h. calls.depots-same p q e f h;
+  same-closing = rooms.same-closing;
+  same-closed = λ t u n m held other p q e f h r next verdicts next′ verdicts′ a b c d x y. calls.depots-alike p q e f h c d x y;
 }
 
 -- THE WRONG VERSIONS that document 01 names: each demand, asked of any candidate, rejects them on the examples that it names.
 pub record WrongVersions : Type 0 where
-  -- Refusing always, answering always alike, doing nothing: demand 2.
+  -- Refusing always, or answering always alike: demand 2 rejects both on A and N.
+  pub refusing-on-A : (c : Closer) → RefusesAlways c → Rejects c examples.A
+  pub refusing-on-N : (c : Closer) → RefusesAlways c → Rejects c N
   pub refusing-always : (c : Closer) → RefusesAlways c → Demand2 c → ⊥
+  pub alike-on-A-and-N : (c : Closer) → AnswersAlike c → wrong.AsksOn c examples.A → wrong.AsksOn c N → ⊥
   pub answering-alike : (c : Closer) → AnswersAlike c → Demand2 c → ⊥
+  -- Doing nothing: demand 2 on A.
+  pub nothing-on-A : (c : Closer) → DoesNothing c → Rejects c examples.A
   pub doing-nothing : (c : Closer) → DoesNothing c → Demand2 c → ⊥
-  -- Always spoiled, only repeating the first offer's sheet, counting deliveries as sets: demand 3.
+  -- Always spoiled: demand 3 on G.
+  pub spoiled-on-G : gatherers.AsksOn alwaysSpoiled exampleG → ⊥
   pub always-spoiled : Demand3 alwaysSpoiled → ⊥
+  -- Gathering the first offer and then only repeating that sheet: demand 3 on A.
+  pub first-offer-on-A : gatherers.AsksOn firstOffer exampleA → ⊥
   pub first-offer : Demand3 firstOffer → ⊥
+  -- Counting deliveries as sets: demand 3 on G with notice 1.
+  pub deliveries-on-G1 : gatherers.AsksOn countsDeliveries exampleG1 → ⊥
   pub deliveries : Demand3 countsDeliveries → ⊥
   -- The operations of document 01 meet both.
   pub paper-closes : Demand2 closers.paperCloser
@@ -260,11 +328,18 @@ pub record WrongVersions : Type 0 where
 
 pub wrong-versions : WrongVersions
 wrong-versions = record {
+  refusing-on-A = wrong.refusing-on-A;
+  refusing-on-N = wrong.refusing-on-N;
   refusing-always = wrong.refusing-always-fails;
+  alike-on-A-and-N = wrong.alike-on-A-and-N;
   answering-alike = wrong.answering-alike-fails;
+  nothing-on-A = wrong.nothing-on-A;
   doing-nothing = wrong.doing-nothing-fails;
+  spoiled-on-G = gatherers.spoiled-on-G;
   always-spoiled = gatherers.always-spoiled-fails;
+  first-offer-on-A = gatherers.first-offer-on-A;
   first-offer = gatherers.first-offer-fails;
+  deliveries-on-G1 = gatherers.deliveries-on-G1;
   deliveries = gatherers.deliveries-fail;
   paper-closes = closers.paper-closes;
   paper-gathers = gatherers.paper-meets;

@@ -86,7 +86,8 @@ same-closed (closed.Wrote n m) (closed.Refused y) e = absurd (refusal-some y (ap
 same-closed (closed.Refused x) (closed.Wrote k l) e = absurd (refusal-some x (sym (ap (λ (x : ℕ × ℕ × ℕ). x .0) e)))
 same-closed (closed.Refused x) (closed.Refused y) e = ap closed.Refused (same-refusal x y (ap (λ (x : ℕ × ℕ × ℕ). x .0) e))
 
-abbrev Four : Type 0
+-- the numbers of the read check's answer
+abbrev pub Four : Type 0
 Four = ℕ × ℕ × ℕ × ℕ
 
 same-checked : (a b : Checked) → checkedNumbers a ≡ checkedNumbers b → a ≡ b
