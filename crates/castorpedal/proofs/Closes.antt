@@ -1,43 +1,34 @@
 -- Closing writes no more than a register and 64 verdicts may have, so its lengths fit the C struct; and how its export keeps its promise.
-use Prim.Native.Nat.{ℕ, _*_, _≤_}
+use Prim.Native.Nat.{ℕ, _≤_}
 use mathlib.Core.Path.{_≡_, refl, sym, _∙_, ap, subst}
-use mathlib.Core.List.{List, [], _∷_, map}
 use native.Mathlib.Omega.{arith}
-use lib.ListN.{length, length-append}
+use lib.ListN.{length}
 use Rattle.words.specs.Words.{Bytes}
-use Rattle.words.proofs.Laws.{le-length}
 use Rattle.rules.specs.declared.answer.Refusal.{Refusal}
-use Rattle.rules.specs.declared.answer.Verdict.{Verdict}
 use Rattle.rules.specs.declared.answer.Closed.{Closed}
 use Rattle.rules.specs.declared.answer.Closed.the-variants.{Wrote, Refused}
-use Rattle.rules.specs.Answers.{closedNumbers, refusalNumber, verdictKey}
-use Rattle.rules.specs.Lists.{_or_, flat}
+use Rattle.rules.specs.Answers.{closedNumbers, refusalNumber}
 use Rattle.rules.specs.Register.{Register, maxRows}
-use Rattle.rules.specs.Sheet.{Sheet, WriteSet}
-use Rattle.rules.specs.Closing.{nextRows, next, verdict, verdicts}
-use Rattle.rules.specs.Refused.{Outcome, refused, done, Closing, registerRoom, verdictRoom, verdictBytes, closing, closeOutcome}
+use Rattle.rules.specs.Sheet.{Sheet}
+use Rattle.rules.specs.Closing.{nextRows, next}
+use Rattle.rules.specs.Refused.{Outcome, refused, done, Closing, registerRoom, verdictRoom, closing, closeOutcome}
 use Rattle.rules.specs.Promises.{toldClosing, ClosePromise}
 use Rattle.laws.specs.RegisterLaws.{register-length}
 use Rattle.laws.specs.SheetLaws.{soundSheet→, written-read}
 use Rattle.laws.specs.Closers.{closes→}
+use Rattle.closing.proofs.VerdictLaws.{verdicts-long}
 use Rattle.castorpedal.specs.declared.answer.CClosed.{CClosed}
 use Rattle.castorpedal.specs.Exported.{WithinClosed, ToldClosed, KeptClose}
 
 -- ---- what closing writes
-
--- five bytes a verdict, one a set
-verdicts-length : (f : WriteSet → Verdict) (ws : List WriteSet) → length (flat verdictBytes (map f ws)) ≡ 5 * length ws
-unfolding flat verdictBytes
-verdicts-length f [] = refl
-verdicts-length f (w ∷ ws) = length-append (verdictBytes (f w)) (flat verdictBytes (map f ws)) ∙ omega (arith, le-length 4 (verdictKey (f w)), verdicts-length f ws)
 
 -- a closing whose lengths are at most those of a register and of 64 verdicts
 abbrev pub Small : Closing → Type 0
 Small c = (length c.register ≤ registerRoom) × (length c.verdicts ≤ verdictRoom)
 
 small : (g : Register) (s : Sheet) → length (nextRows g s) ≤ maxRows → length s.sets ≤ 64 → Small (closing g s)
-unfolding closing next verdicts
-small g s h k = (omega (arith, register-length (next g s)), omega (arith, verdicts-length (verdict g s) s.sets))
+unfolding closing next
+small g s h k = (omega (arith, register-length (next g s)), omega (arith, verdicts-long g s))
 
 pub close-fits : (register sheet : Bytes) (nextRoom room : ℕ) (c : Closing) → closeOutcome register sheet nextRoom room ≡ done c → Small c
 close-fits register sheet nextRoom room c p =

@@ -14,8 +14,8 @@ use Rattle.rules.specs.declared.answer.Answer.the-variants.{Wrote, Refused}
 use Rattle.rules.specs.Answers.{answerNumbers, refusalNumber}
 use Rattle.rules.specs.Numbers.{masterOf}
 use Rattle.rules.specs.Sheet.{Sheet, inRoster, soundSet, soundSheet, sheetBytes, readSheet}
-use Rattle.rules.specs.Gathering.{Offer, holding, withOffer, joined, soundOf}
-use Rattle.rules.specs.Refused.{Outcome, refused, done, sheetRoom, offerTo, offeredSet, offeredNotice, openOutcome, putOutcome, noticeOutcome, joinSheets, joinOutcome}
+use Rattle.rules.specs.Gathering.{Offer, holding, withOffer, soundOf}
+use Rattle.rules.specs.Refused.{Outcome, refused, done, sheetRoom, offerTo, offeredSet, offeredNotice, openOutcome, putOutcome, noticeOutcome, joinOutcome}
 use Rattle.rules.specs.Promises.{told, Promise}
 use Rattle.laws.specs.Tests.{both}
 use Rattle.laws.specs.FormLaws.{→fits}
@@ -23,7 +23,7 @@ use Rattle.laws.specs.SheetLaws.{soundSheet→, written-read}
 use Rattle.laws.specs.GatherSound.{FairOffer, head-of}
 use Rattle.laws.specs.Joining.{joined-sound}
 use Rattle.laws.specs.OneOffer.{one-sound, put-joins}
-use Rattle.laws.specs.NotRefused.{refused-not, open→, offer→, set→, notice→, join→}
+use Rattle.laws.specs.NotRefused.{refused-not, open→, offer→, set→, notice→, join-sound}
 use Rattle.forms.proofs.SheetPlaces.{sheet-length, total-few}
 use Rattle.gather.proofs.OneLaws.{empty-length}
 use Rattle.castorpedal.specs.declared.answer.CAnswer.{CAnswer}
@@ -83,15 +83,9 @@ notice-fits sheet e m n room =
     (λ s x p q i. let w = notice→ e m n x p in fair-as _ _ (sym (w .0)) (omega (arith, w .1), w .2, i))
 
 pub join-fits : (a b : Bytes) (room : ℕ) → Fits (joinOutcome a b room)
-unfolding joinOutcome
-join-fits a b room c p = go (readSheet a) refl (readSheet b) refl p
-  where
-    go : (x : Option Sheet) → readSheet a ≡ x → (y : Option Sheet) → readSheet b ≡ y → joinSheets x y room ≡ done c → length c ≤ sheetRoom
-    go none q y k h = absurd (unfold joinSheets in refused-not h)
-    go (some s) q none k h = absurd (unfold joinSheets in refused-not h)
-    go (some s) q (some t) k h =
-        let w = join→ s t room c h in
-        omega (arith, ap length (w .2), sheet-room (joined s t) (joined-sound s t (written-read a s q .1) (written-read b t k .1) (w .0) (w .1)))
+join-fits a b room c p =
+    let w = join-sound a b room c p in
+    omega (arith, ap length (w .2), sheet-room (w .0) (w .1))
 
 -- ---- how an export keeps its promise
 

@@ -1,41 +1,29 @@
 -- Each refusal of closing, and what is promised where nothing refuses.
 use Prim.Native.Nat.{ℕ, _+_, _*_, _≤_, _<_}
-use mathlib.Core.Path.{_≡_, refl, sym, _∙_, ap}
+use mathlib.Core.Path.{_≡_, refl, sym, _∙_}
 use mathlib.Core.Bool.{true, false}
 use mathlib.Core.List.{_++_}
 use mathlib.Core.Option.{none, some}
 use native.Mathlib.Omega.{arith}
 use borrow.Author.Tests.{lt-ltb, le-ltb}
-use lib.ListN.{length, length-append, length-map}
+use lib.ListN.{length, length-append}
 use lib.Dec.{eqb}
 use Rattle.words.specs.Words.{Bytes, le, stored}
 use Rattle.words.proofs.Laws.{le-length, then-stored, stored-front}
-use Rattle.rules.specs.declared.answer.Refusal.{Refusal}
 use Rattle.rules.specs.declared.answer.Closed.{Closed}
 use Rattle.rules.specs.declared.answer.Closed.the-variants as closed
 use Rattle.rules.specs.Lists.{_or_, flat}
 use Rattle.rules.specs.Forms.{read}
 use Rattle.rules.specs.Register.{Register, maxRows, rowBytes, registerBytes, isRegister, registerIn, readRegister}
 use Rattle.rules.specs.Sheet.{Sheet, isSheet, sheetIn}
-use Rattle.rules.specs.Closing.{complete, verdict, nextRows, next, verdicts}
-use Rattle.rules.specs.Answers.{refusalNumber}
+use Rattle.rules.specs.Closing.{complete, nextRows, next, verdicts}
 use Rattle.rules.specs.Refused.{Outcome, refused, done, Closing, closing, registerRoom, verdictRoom, verdictBytes, closeSheet, closeOutcome}
 use Rattle.rules.specs.Promises.{over, toldClosing, leftRegister, leftVerdicts, ClosePromise}
 use Rattle.laws.specs.RegisterLaws.{register-read, register-length}
 use Rattle.laws.specs.SheetLaws.{sheet-read, sheet-unread}
 use Rattle.forms.specs.RegisterForm.{placeOf, registerHead}
 use Rattle.closing.specs.Judged.{closeComplete}
-use Rattle.closing.proofs.VerdictLaws.{verdicts-length}
-
--- what a refusal promises
-pub refuses : {o : Outcome Closing} {k : ℕ} {x : Refusal} (a b : Bytes) → o ≡ refused k → refusalNumber x ≡ k → ClosePromise o a b (closed.Refused x) a b
-unfolding toldClosing leftRegister leftVerdicts
-refuses a b e n =
-    record {
-      answered = ap (λ (m : ℕ). (m, 0, 0)) n ∙ sym (ap toldClosing e);
-      next = sym (ap (λ (p : Outcome Closing). leftRegister p a) e);
-      verdicts = sym (ap (λ (p : Outcome Closing). leftVerdicts p b) e);
-    }
+use Rattle.closing.proofs.VerdictLaws.{verdicts-long}
 
 -- the same of an equal outcome
 pub alike : {o p : Outcome Closing} {a b : Bytes} {r : Closed} {a′ b′ : Bytes} → o ≡ p → ClosePromise p a b r a′ b′ → ClosePromise o a b r a′ b′
@@ -113,10 +101,6 @@ module _ (g : Register) (s : Sheet) (few : length (nextRows g s) ≤ maxRows) (s
   unfolding next
   register-long = register-length (next g s)
 
-  verdicts-long : length (flat verdictBytes (verdicts g s)) ≡ 5 * length s.sets
-  unfolding verdicts
-  verdicts-long = verdicts-length (verdicts g s) ∙ ap (λ (k : ℕ). 5 * k) (length-map s.sets (verdict g s))
-
   pub closes : (a b : Bytes) {a′ b′ : Bytes} (n m : ℕ) → registerRoom ≤ length a → verdictRoom ≤ length b → n ≡ placeOf (length (nextRows g s)) → m ≡ 5 * length s.sets
       → a′ ≡ stored a 0 (registerBytes (next g s)) → b′ ≡ stored b 0 (flat verdictBytes (verdicts g s))
       → ClosePromise (closeComplete g s (length a) (length b)) a b (closed.Wrote n m) a′ b′
@@ -124,7 +108,7 @@ module _ (g : Register) (s : Sheet) (few : length (nextRows g s) ≤ maxRows) (s
   closes a b n m h k e f p q =
       alike (complete-done g s (length a) (length b) few h k)
       (record {
-        answered = λ i. (0, (e ∙ sym register-long) i, (f ∙ sym verdicts-long) i);
+        answered = λ i. (0, (e ∙ sym register-long) i, (f ∙ sym (verdicts-long g s)) i);
         next = p ∙ stored-front a (registerBytes (next g s)) (omega (arith, register-long));
-        verdicts = q ∙ stored-front b (flat verdictBytes (verdicts g s)) (omega (arith, verdicts-long));
+        verdicts = q ∙ stored-front b (flat verdictBytes (verdicts g s)) (omega (arith, verdicts-long g s));
       })

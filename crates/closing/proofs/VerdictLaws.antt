@@ -61,6 +61,10 @@ unfolding flat verdictBytes
 verdicts-length [] = refl
 verdicts-length (v ∷ vs) = length-append (verdictBytes v) (flat verdictBytes vs) ∙ omega (arith, le-length 4 (verdictKey v), verdicts-length vs)
 
+pub verdicts-long : (g : Register) (s : Sheet) → length (flat verdictBytes (verdicts g s)) ≡ 5 * length s.sets
+unfolding verdicts
+verdicts-long g s = verdicts-length (verdicts g s) ∙ ap (λ (k : ℕ). 5 * k) (length-map s.sets (verdict g s))
+
 module _ (g : Register) (s : Sheet) (l₀ : Bytes) where
   pub verdicts-start : l₀ ≡ stored l₀ 0 (flat verdictBytes (firstVerdicts g s 0))
   unfolding firstVerdicts flat stored

@@ -2,19 +2,19 @@
 use Prim.Native.Nat.{ℕ, _<_, _≤_}
 use mathlib.Core.Path.{_≡_, sym, _∙_, ap, ap₂}
 use mathlib.Core.Bool.{Bool, true, false}
-use mathlib.Core.Option.{Option, none, some}
+use mathlib.Core.Option.{Option, some}
 use borrow.Author.Tests.{eq-eqb, ne-eqb, lt-ltb, le-ltb, ltb-false}
 use lib.ListN.{length}
 use Rattle.words.specs.Words.{Bytes}
 use Rattle.rules.specs.declared.answer.Answer.the-variants.{Wrote, Refused}
 use Rattle.rules.specs.declared.answer.Refusal.the-variants.{SheetIllFormed, WrongEpoch, WrongRoster, BufferShort}
 use Rattle.rules.specs.Lists.{_or_, if_then_else_}
-use Rattle.rules.specs.Forms.{read}
 use Rattle.rules.specs.Sheet.{Sheet, maxSets, sheetBytes, sheetIn, isSheet, readSheet}
 use Rattle.rules.specs.Gathering.{spoiledSheet, joined}
 use Rattle.rules.specs.Refused.{sheetRoom, joinSheets, joinOutcome}
 use Rattle.rules.specs.Promises.{over, Promise}
 use Rattle.laws.specs.Tests.{or-left, or-right, or-false}
+use Rattle.laws.specs.SheetLaws.{sheet-read, sheet-unread}
 use Rattle.laws.specs.Meets.{refuses, writes}
 use Rattle.laws.specs.Joining.{together, joinSpoils, joinHeld, joined-by}
 use Rattle.forms.proofs.SheetPlaces.{sheet-sound}
@@ -62,28 +62,20 @@ few-together a b e = ltb-false maxSets (length (together a b)) (or-false _ _ (or
 
 -- ---- the refusals
 
-read-yes : (b : Bytes) → isSheet b ≡ true → readSheet b ≡ some (sheetIn b)
-unfolding readSheet read isSheet
-read-yes b e = rw e
-
-read-no : (b : Bytes) → isSheet b ≡ false → readSheet b ≡ none
-unfolding readSheet read isSheet
-read-no b e = rw e
-
 pub first-ill : (a b l : Bytes) → isSheet a ≡ false → Promise (joinOutcome a b (length l)) l (Refused SheetIllFormed) l
 unfolding joinOutcome joinSheets
-first-ill a b l e = refuses _ SheetIllFormed l (ap (λ (x : Option Sheet). joinSheets x (readSheet b) (length l)) (read-no a e))
+first-ill a b l e = refuses _ SheetIllFormed l (ap (λ (x : Option Sheet). joinSheets x (readSheet b) (length l)) (sheet-unread a e))
 
 module _ (a b l : Bytes) (p : isSheet a ≡ true) where
   pub second-ill : isSheet b ≡ false → Promise (joinOutcome a b (length l)) l (Refused SheetIllFormed) l
   unfolding joinOutcome joinSheets
   second-ill e =
-      refuses _ SheetIllFormed l (ap₂ (λ (x y : Option Sheet). joinSheets x y (length l)) (read-yes a p) (read-no b e))
+      refuses _ SheetIllFormed l (ap₂ (λ (x y : Option Sheet). joinSheets x y (length l)) (sheet-read a p) (sheet-unread b e))
 
   module _ (q : isSheet b ≡ true) where
     both-read : joinOutcome a b (length l) ≡ joinSheets (some (sheetIn a)) (some (sheetIn b)) (length l)
     unfolding joinOutcome
-    both-read = ap₂ (λ (x y : Option Sheet). joinSheets x y (length l)) (read-yes a p) (read-yes b q)
+    both-read = ap₂ (λ (x y : Option Sheet). joinSheets x y (length l)) (sheet-read a p) (sheet-read b q)
 
     pub other-epoch : (sheetIn a .epoch ≡ sheetIn b .epoch → ⊥) → Promise (joinOutcome a b (length l)) l (Refused WrongEpoch) l
     unfolding joinSheets

@@ -29,7 +29,7 @@ use Rattle.laws.specs.Tests.{same-tests}
 use Rattle.laws.specs.Says.{clash}
 use Rattle.laws.specs.ListLaws.{first→, first-none}
 use Rattle.laws.specs.Rising.{Rising, rising→, rising-first}
-use Rattle.laws.specs.NotRefused.{refused-not, done-same, setBy}
+use Rattle.laws.specs.NotRefused.{refused-not, done-same, refused-same, setBy}
 
 -- ---- the table, and the first of its rows that applies
 
@@ -101,13 +101,10 @@ module _ {A : Type 0} (q : Asked) (o : Outcome A) (a : A) where
       }
       go (some x) e p = record {
         refused-when = λ y s. p ∙ ap refused (one-smallest q x y (smallest q x e) s);
-        only-when = λ n r. (x, number (sym r ∙ p), smallest q x e);
+        only-when = λ n r. (x, refused-same (sym r ∙ p), smallest q x e);
         else-done = λ h. absurd (clash (smallest q x e .it-applies) (h x));
         only-else = λ b r. absurd (refused-not (sym p ∙ r));
       }
-        where
-          number : {m n : ℕ} → _≡_ {A = Outcome A} (refused m) (refused n) → m ≡ n
-          number c = cc
 
 module _ {A : Type 0} where
   -- one row of the table: refused by its number where its test holds, else as the rows below it

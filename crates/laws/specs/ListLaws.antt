@@ -1,7 +1,7 @@
 -- Laws of lists by their elements: `Sub xs ys` says that each element of xs is one of ys.
 use Prim.Native.Nat.{ℕ, zero, suc, _+_, _<_, _≤_}
 use mathlib.Core.Path.{_≡_, refl, sym, _∙_, ap}
-use mathlib.Core.Logic.{_⊎_, ⊎-elim}
+use mathlib.Core.Logic.{⊎-elim}
 use mathlib.Core.Bool.{Bool, true, false, false≢true}
 use mathlib.Core.List.{List, [], _∷_, _++_, map, List·Memᴰ, List·Memᴰ·head, List·Memᴰ·tail, List·Memᴰ·not-nil, List·Memᴰ·cases-cons, List·Memᴰ·append-cases, Memᴰ·append-left, Memᴰ·append-right}
 use mathlib.Core.Option.{none, some, Option·some-injective, Option·none-ne-some}
@@ -9,7 +9,7 @@ use native.Mathlib.Omega.{arith}
 use native.Mathlib.Decide.{ℕ-discrete}
 use lib.ListN.{getD}
 use Rattle.laws.specs.Tests.{left, right, both, or→, or-left, or-right}
-use Rattle.rules.specs.Lists.{_or_, if_then_else_, all, any, keep, first, flat, upFrom}
+use Rattle.rules.specs.Lists.{if_then_else_, all, any, keep, first, flat, upFrom}
 
 module _ {A : Type 0} where
   -- each element of the first list is one of the second

@@ -1,7 +1,7 @@
 -- Two lists of sets in csn order, walked together: which set `distinct` has next, and that no step hides or makes a clash.
 use Prim.Native.Nat.{ℕ, zero, suc, _+_, _<_, _≤_}
 use mathlib.Core.Path.{_≡_, refl, sym, _∙_, ap}
-use mathlib.Core.Logic.{_⊎_, ⊎-elim}
+use mathlib.Core.Logic.{⊎-elim}
 use mathlib.Core.Bool.{Bool, true, false, not, true≢false}
 use mathlib.Core.List.{List, [], _∷_, _++_, append-nil, List·Memᴰ, List·Memᴰ·head, List·Memᴰ·tail, List·Memᴰ·not-nil, List·Memᴰ·cases-cons, List·Memᴰ·append-cases, Memᴰ·append-left, Memᴰ·append-right}
 use native.Mathlib.Omega.{arith}
@@ -25,9 +25,6 @@ Above = rising.Above csnOf
 
 head-below : {w : WriteSet} {ws : List WriteSet} → Sorted (w ∷ ws) → Above w.csn ws
 head-below (cons f s) = f
-
-tail-sorted : {w : WriteSet} {ws : List WriteSet} → Sorted (w ∷ ws) → Sorted ws
-tail-sorted (cons f s) = s
 
 pub drop-sorted : (i : ℕ) {ws : List WriteSet} → Sorted ws → Sorted (drop i ws)
 drop-sorted zero s = s

@@ -12,11 +12,12 @@ use Rattle.words.specs.Words.{Bytes}
 use Rattle.rules.specs.declared.row.Record.{Record}
 use Rattle.rules.specs.Lists.{_and_, if_then_else_}
 use Rattle.rules.specs.Forms.{wellFormed, read}
-use Rattle.rules.specs.Sheet.{WriteSet, Sheet, maxSets, inRoster, soundRecords, recordsBytes, sheetBytes, readRecords, offeredRecords}
+use Rattle.rules.specs.Sheet.{WriteSet, Sheet, maxSets, inRoster, soundRecords, soundSheet, recordsBytes, sheetBytes, readSheet, readRecords, offeredRecords}
 use Rattle.rules.specs.Gathering.{Offer, aSet, aNotice, emptySheet, withOffer, joined}
-use Rattle.rules.specs.Refused.{Outcome, refused, done, sheetRoom, openOutcome, setWith, offeredSet, offeredNotice, offerTo, joinSheets}
+use Rattle.rules.specs.Refused.{Outcome, refused, done, sheetRoom, openOutcome, setWith, offeredSet, offeredNotice, offerTo, joinSheets, joinOutcome}
 use Rattle.laws.specs.Tests.{left, right}
-use Rattle.laws.specs.SheetLaws.{written-records}
+use Rattle.laws.specs.SheetLaws.{written-read, written-records}
+use Rattle.laws.specs.Joining.{joined-sound}
 use Rattle.laws.specs.Trees.{andThen}
 
 -- ---- of any outcome
@@ -27,6 +28,9 @@ module _ {A : Type 0} where
 
   pub done-same : {a b : A} → done a ≡ done b → a ≡ b
   done-same p = cc
+
+  pub refused-same : {m n : ℕ} → _≡_ {A = Outcome A} (refused m) (refused n) → m ≡ n
+  refused-same p = cc
 
   -- one refusal passed
   pub passed : (t : Bool) (n : ℕ) (o : Outcome A) (a : A) → (if t then refused n else o) ≡ done a → (t ≡ false) × (o ≡ done a)
@@ -132,3 +136,15 @@ join→ s t room b p =
 pub →join : (s t : Sheet) (room : ℕ) → s.epoch ≡ t.epoch → s.roster ≡ t.roster → sheetRoom ≤ room → joinSheets (some s) (some t) room ≡ done (sheetBytes (joined s t))
 unfolding joinSheets
 →join s t room p q h = simp (eq-eqb s.epoch t.epoch p, eq-eqb s.roster t.roster q, le-ltb room sheetRoom h)
+
+-- what it writes is a sound sheet
+pub join-sound : (a b : Bytes) (room : ℕ) (c : Bytes) → joinOutcome a b room ≡ done c → (s : Sheet) × (soundSheet s ≡ true) × (c ≡ sheetBytes s)
+unfolding joinOutcome joinSheets
+join-sound a b room c p = go (readSheet a) refl (readSheet b) refl p
+  where
+    go : (x : Option Sheet) → readSheet a ≡ x → (y : Option Sheet) → readSheet b ≡ y → joinSheets x y room ≡ done c → (s : Sheet) × (soundSheet s ≡ true) × (c ≡ sheetBytes s)
+    go none q y k h = absurd (refused-not h)
+    go (some s) q none k h = absurd (refused-not h)
+    go (some s) q (some t) k h =
+        let w = join→ s t room c h in
+        (joined s t, joined-sound s t (written-read a s q .1) (written-read b t k .1) (w .0) (w .1), w .2)

@@ -133,9 +133,10 @@ snapshot-written : (x : ℕ) (rest rest′ : Bytes) → x < 256 ^ 4 → word 4 (
 unfolding word le
 snapshot-written x rest rest′ h = word-le 4 x h
 
-register-written : (g : Register) → RegisterSound g → registerIn (registerBytes g) ≡ g
+pub register-decoded : (g : Register) → soundRegister g ≡ true → registerIn (registerBytes g) ≡ g
 unfolding registerIn registerBytes
-register-written g w =
+register-decoded g e =
+    let w = soundRegister→ g e in
     let b = le 4 g.snapshot ++ le 4 (length g.rows) ++ flat rowBytes g.rows in
     let n : word 4 b 4 ≡ length g.rows = count-written g.snapshot (length g.rows) (flat rowBytes g.rows) (omega arith) in
     let rs : rowsIn (word 4 b 4) b 8 ≡ g.rows =
@@ -148,7 +149,7 @@ register-written g w =
 -- A SOUND REGISTER COMES BACK FROM ITS BYTES
 pub read-written : (g : Register) → soundRegister g ≡ true → readRegister (registerBytes g) ≡ some g
 unfolding readRegister
-read-written g e = read-encoded registerIn soundRegister registerBytes g (register-written g (soundRegister→ g e)) e
+read-written g e = read-encoded registerIn soundRegister registerBytes g (register-decoded g e) e
 
 -- WHAT IS READ IS SOUND, AND WRITTEN AS THE BYTES THAT WERE READ
 pub written-read : (b : Bytes) (g : Register) → readRegister b ≡ some g → (b ≡ registerBytes g) × (soundRegister g ≡ true)
@@ -167,6 +168,9 @@ register-exact b e = same→ _ _ (right _ _ e)
 pub register-yes : (b : Bytes) → soundRegister (registerIn b) ≡ true → registerBytes (registerIn b) ≡ b → isRegister b ≡ true
 unfolding isRegister wellFormed
 register-yes b s e = both s (ap (λ (l : Bytes). same l b) e ∙ same-refl b)
+
+pub register-is : (g : Register) → soundRegister g ≡ true → isRegister (registerBytes g) ≡ true
+register-is g e = let d = register-decoded g e in register-yes (registerBytes g) (ap soundRegister d ∙ e) (ap registerBytes d)
 
 pub register-read : (b : Bytes) → isRegister b ≡ true → readRegister b ≡ some (registerIn b)
 unfolding isRegister readRegister read

@@ -2,7 +2,7 @@
 -- its row but for the mark, or stays absent. A row with a winner bears the winner's mark; all other rows stay.
 use Prim.Native.Nat.{ℕ}
 use mathlib.Core.Path.{_≡_, refl, sym, _∙_, ap}
-use mathlib.Core.Logic.{_⊎_, ⊎-elim}
+use mathlib.Core.Logic.{⊎-elim}
 use mathlib.Core.Bool.{true, false, false≢true}
 use mathlib.Core.List.{List·Memᴰ}
 use mathlib.Core.Option.{Option, none, some}

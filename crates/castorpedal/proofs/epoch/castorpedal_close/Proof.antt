@@ -3,10 +3,6 @@ use Rattle.castorpedal.proofs.Closes.{close-fits, within-closed, kept-c
 use borrow.Author.Needs.{needs}
 use Rattle.castorpedal.proofs.epoch.castorpedal_close.Statement.{statement}
 use Rattle.castorpedal.proofs.epoch.castorpedal_close.Tie as tie
-use Rattle.castorpedal.proofs.epoch.castorpedal_close.Reads as reads
-use Rattle.castorpedal.proofs.epoch.castorpedal_close.Lts as lts
-use Rattle.castorpedal.proofs.answer.closed.Reads as closed-reads
-use Rattle.closing.proofs.close.Reads as close-reads
 
 close-requires : tie.Need-close-requires
 close-requires c κs = search needs

@@ -1,7 +1,7 @@
 -- Bad form is refused before all else.
-use mathlib.Core.Path.{refl}
 use Rattle.laws.specs.Says.{said-no, said-yes}
-use Rattle.closing.proofs.CloseLaws.{refuses, alike, close-1, close-2, close-on}
+use Rattle.laws.specs.Meets.{refuses-closing}
+use Rattle.closing.proofs.CloseLaws.{alike, close-1, close-2, close-on}
 use borrow.Author.Needs.{needs}
 use Rattle.closing.proofs.epoch.close.Statement.{statement}
 use Rattle.closing.proofs.epoch.close.Tie as tie
@@ -10,13 +10,13 @@ is-register-requires : tie.Need-is-register-requires
 is-register-requires c κs = search needs
 
 returns : tie.Need-returns
-returns c = refuses _ _ (close-1 _ _ _ _ (said-no (c .before .is-register .ensures) (c .if1 .taken))) refl
+returns c = refuses-closing _ _ _ _ (close-1 _ _ _ _ (said-no (c .before .is-register .ensures) (c .if1 .taken)))
 
 is-sheet-requires : tie.Need-is-sheet-requires
 is-sheet-requires c κs = search needs
 
 returns-2 : tie.Need-returns-2
-returns-2 c = refuses _ _ (close-2 _ _ _ _ (said-yes (c .before .before .before .is-register .ensures) (c .before .before .if1 .left)) (said-no (c .before .is-sheet .ensures) (c .if2 .taken))) refl
+returns-2 c = refuses-closing _ _ _ _ (close-2 _ _ _ _ (said-yes (c .before .before .before .is-register .ensures) (c .before .before .if1 .left)) (said-no (c .before .is-sheet .ensures) (c .if2 .taken)))
 
 close-sheet-requires : tie.Need-close-sheet-requires
 close-sheet-requires c κs = (said-yes (c .before .before .before .before .before .is-register .ensures) (c .before .before .before .before .if1 .left), said-yes (c .before .before .before .is-sheet .ensures) (c .before .before .if2 .left))

@@ -1,7 +1,7 @@
 -- Rows are counted before room is looked at, and nothing is written before both.
-use mathlib.Core.Path.{refl}
 use native.Mathlib.Omega.{arith}
-use Rattle.closing.proofs.CloseLaws.{refuses, complete-8, complete-9-next, complete-9-verdicts}
+use Rattle.laws.specs.Meets.{refuses-closing}
+use Rattle.closing.proofs.CloseLaws.{complete-8, complete-9-next, complete-9-verdicts}
 use borrow.Author.Needs.{needs}
 use Rattle.closing.proofs.epoch.close_complete.Statement.{statement}
 use Rattle.closing.proofs.epoch.close_complete.Tie as tie
@@ -25,13 +25,13 @@ next-count-requires : tie.Need-next-count-requires
 next-count-requires c κs = search needs
 
 returns : tie.Need-returns
-returns c = refuses _ _ (complete-8 _ _ _ _ (omega arith)) refl
+returns c = refuses-closing _ _ _ _ (complete-8 _ _ _ _ (omega arith))
 
 returns-2 : tie.Need-returns-2
-returns-2 c = refuses _ _ (complete-9-next _ _ _ _ (omega arith) (omega arith)) refl
+returns-2 c = refuses-closing _ _ _ _ (complete-9-next _ _ _ _ (omega arith) (omega arith))
 
 returns-3 : tie.Need-returns-3
-returns-3 c = refuses _ _ (complete-9-verdicts _ _ _ _ (omega arith) (omega arith) (omega arith)) refl
+returns-3 c = refuses-closing _ _ _ _ (complete-9-verdicts _ _ _ _ (omega arith) (omega arith) (omega arith))
 
 slice-aggregate-write : tie.Need-slice-aggregate-write
 slice-aggregate-write c = search needs

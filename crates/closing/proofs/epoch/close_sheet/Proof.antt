@@ -1,8 +1,9 @@
 -- Refused at the first test that fails.
-use mathlib.Core.Path.{refl, sym, _∙_}
+use mathlib.Core.Path.{sym, _∙_}
 use borrow.Author.Tests.{eqb-true}
 use Rattle.laws.specs.Says.{said-no, said-yes}
-use Rattle.closing.proofs.CloseLaws.{refuses, alike, sheet-4, sheet-6, sheet-7, sheet-on}
+use Rattle.laws.specs.Meets.{refuses-closing}
+use Rattle.closing.proofs.CloseLaws.{alike, sheet-4, sheet-6, sheet-7, sheet-on}
 use borrow.Author.Needs.{needs}
 use Rattle.closing.proofs.epoch.close_sheet.Statement.{statement}
 use Rattle.closing.proofs.epoch.close_sheet.Tie as tie
@@ -11,22 +12,22 @@ follows-requires : tie.Need-follows-requires
 follows-requires c κs = search needs
 
 returns : tie.Need-returns
-returns c = refuses _ _ (sheet-4 _ _ _ _ (said-no (c .before .follows .ensures) (c .if1 .taken))) refl
+returns c = refuses-closing _ _ _ _ (sheet-4 _ _ _ _ (said-no (c .before .follows .ensures) (c .if1 .taken)))
 
 is-spoiled-requires : tie.Need-is-spoiled-requires
 is-spoiled-requires c κs = search needs
 
 returns-2 : tie.Need-returns-2
-returns-2 c = refuses _ _ (sheet-6 _ _ _ _ (said-yes (c .before .before .before .follows .ensures) (c .before .before .if1 .left)) (sym (c .before .is-spoiled .ensures) ∙ c .if2 .taken)) refl
+returns-2 c = refuses-closing _ _ _ _ (sheet-6 _ _ _ _ (said-yes (c .before .before .before .follows .ensures) (c .before .before .if1 .left)) (sym (c .before .is-spoiled .ensures) ∙ c .if2 .taken))
 
 complete-requires : tie.Need-complete-requires
 complete-requires c κs = search needs
 
 returns-3 : tie.Need-returns-3
 returns-3 c =
-    refuses _ _
+    refuses-closing _ _ _ _
     (sheet-7 _ _ _ _ (said-yes (c .before .before .before .before .before .follows .ensures) (c .before .before .before .before .if1 .left))
-    (sym (c .before .before .before .is-spoiled .ensures) ∙ c .before .before .if2 .left) (said-no (c .before .complete .ensures) (c .if3 .taken))) refl
+    (sym (c .before .before .before .is-spoiled .ensures) ∙ c .before .before .if2 .left) (said-no (c .before .complete .ensures) (c .if3 .taken)))
 
 close-complete-requires : tie.Need-close-complete-requires
 close-complete-requires c κs =

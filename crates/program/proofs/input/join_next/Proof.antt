@@ -41,7 +41,7 @@ same-length : tie.Need-same-length
 same-length c = search needs
 
 returns : tie.Need-returns
-returns c = (joined-holds _ _ (c .before .before .before .before .before .join-to .ensures) _ (c .before .len .given .1), λ e. absurd (sheet-not-ended _ e))
+returns c = (joined-holds _ _ _ (c .before .before .before .before .before .join-to .ensures) _ (c .before .len .given .1), λ e. absurd (sheet-not-ended _ e))
 
 same-length-2 : tie.Need-same-length-2
 same-length-2 c = search needs

@@ -3,7 +3,7 @@ use native.Mathlib.Omega.{arith}
 use lib.ListN.{length-take}
 use mathlib.Core.Path.{ap}
 use Rattle.rules.specs.Refused.{joinOutcome}
-use Rattle.program.proofs.JoinLaws.{fits-in, joined-in, not-joined, promise-as}
+use Rattle.program.proofs.JoinLaws.{joined-holds, joined-in, not-joined, promise-as}
 use borrow.Author.Needs.{needs}
 use Rattle.program.proofs.input.join_to.Statement.{statement}
 use Rattle.program.proofs.input.join_to.Tie as tie
@@ -28,7 +28,7 @@ slice-aggregate-copy c = search needs
 
 copy-requires : tie.Need-copy-requires
 copy-requires c κs =
-    let f = fits-in _ _ (c .before .before .before .before .before .before .join .ensures) (c .before .before .before .len .given .1) in
+    let f = joined-holds _ _ _ (c .before .before .before .before .before .before .join .ensures) _ (c .before .before .before .len .given .1) .within in
     (omega arith, omega arith)
 
 enum-known-x : tie.Need-enum-known-x
@@ -42,13 +42,13 @@ returns c =
     let w = c .before .before in
     let e = c .before .before .before .before .before .before .len .given .1 in
     let j = c .before .before .before .before .before .before .before .before .before in
-    promise-as (ap (joinOutcome _ _) (search needs)) (joined-in _ _ (search needs) (j .join .ensures) e (w .copy .ensures))
+    promise-as (ap (joinOutcome _ _) (search needs)) (joined-in _ _ _ (j .join .ensures) _ (search needs) e (w .copy .ensures))
 
 same-length-2 : tie.Need-same-length-2
 same-length-2 c = search needs
 
 returns-2 : tie.Need-returns-2
-returns-2 c = promise-as (ap (joinOutcome _ _) (search needs)) (not-joined _ _ (c .before .before .before .before .join .ensures) (c .before .x .given .1))
+returns-2 c = promise-as (ap (joinOutcome _ _) (search needs)) (not-joined _ _ _ (c .before .before .before .before .join .ensures) _ (c .before .x .given .1))
 
 pub join-to-spec : {M : Type 1} → statement M
 join-to-spec =
