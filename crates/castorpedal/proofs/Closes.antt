@@ -16,7 +16,7 @@ use Rattle.rules.specs.Promises.{toldClosing, ClosePromise}
 use Rattle.laws.specs.RegisterLaws.{register-length}
 use Rattle.laws.specs.SheetLaws.{soundSheet→, written-read}
 use Rattle.laws.specs.Closers.{closes→}
-use Rattle.closing.proofs.VerdictLaws.{verdicts-long}
+use Rattle.laws.specs.VerdictLength.{verdicts-long}
 use Rattle.castorpedal.specs.declared.answer.CClosed.{CClosed}
 use Rattle.castorpedal.specs.Exported.{WithinClosed, ToldClosed, KeptClose}
 

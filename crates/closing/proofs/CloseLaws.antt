@@ -23,7 +23,7 @@ use Rattle.laws.specs.RegisterLaws.{register-read, register-length}
 use Rattle.laws.specs.SheetLaws.{sheet-read, sheet-unread}
 use Rattle.forms.specs.RegisterForm.{placeOf, registerHead}
 use Rattle.closing.specs.Judged.{closeComplete}
-use Rattle.closing.proofs.VerdictLaws.{verdicts-long}
+use Rattle.laws.specs.VerdictLength.{verdicts-long}
 
 -- the same of an equal outcome
 pub alike : {o p : Outcome Closing} {a b : Bytes} {r : Closed} {a′ b′ : Bytes} → o ≡ p → ClosePromise p a b r a′ b′ → ClosePromise o a b r a′ b′

@@ -7,10 +7,10 @@ use mathlib.Core.Option.{Option, none, some}
 use native.Mathlib.Numerals.{add-one}
 use native.Mathlib.Omega.{arith}
 use borrow.Author.Tests.{ne-eqb}
-use lib.ListN.{length, getD, take, length-append, length-map}
+use lib.ListN.{length, getD, take, length-map}
 use lib.Seq.{take-all, length-take-le}
 use Rattle.words.specs.Words.{Bytes, stored}
-use Rattle.words.proofs.Laws.{le-length, then-stored}
+use Rattle.words.proofs.Laws.{then-stored}
 use Rattle.rules.specs.declared.row.Record.{Record}
 use Rattle.rules.specs.declared.answer.Verdict.{Verdict}
 use Rattle.rules.specs.declared.answer.Verdict.the-variants.{Lost, Unfit}
@@ -18,10 +18,10 @@ use Rattle.rules.specs.Lists.{flat}
 use Rattle.rules.specs.Register.{Register}
 use Rattle.rules.specs.Sheet.{WriteSet, Sheet, soundRecords}
 use Rattle.rules.specs.Closing.{firstWrong, firstLost, judged, verdict, verdicts}
-use Rattle.rules.specs.Answers.{verdictKey}
 use Rattle.rules.specs.Refused.{verdictBytes}
 use Rattle.laws.specs.ListLaws.{first→}
 use Rattle.laws.specs.Commits.{records-rising}
+use Rattle.laws.specs.VerdictLength.{verdicts-length}
 use Rattle.forms.specs.SheetReadings.{setAt, noSet}
 use Rattle.closing.specs.Judged.{keyOr0, wrongKey, lostKey, verdictBy}
 
@@ -55,15 +55,6 @@ verdicts-snoc : (vs : List Verdict) (v : Verdict) → flat verdictBytes (vs ++ v
 unfolding flat
 verdicts-snoc [] v = append-nil (verdictBytes v)
 verdicts-snoc (u ∷ vs) v = ap (λ (l : Bytes). verdictBytes u ++ l) (verdicts-snoc vs v) ∙ sym (append-assoc (verdictBytes u) (flat verdictBytes vs) (verdictBytes v))
-
-pub verdicts-length : (vs : List Verdict) → length (flat verdictBytes vs) ≡ 5 * length vs
-unfolding flat verdictBytes
-verdicts-length [] = refl
-verdicts-length (v ∷ vs) = length-append (verdictBytes v) (flat verdictBytes vs) ∙ omega (arith, le-length 4 (verdictKey v), verdicts-length vs)
-
-pub verdicts-long : (g : Register) (s : Sheet) → length (flat verdictBytes (verdicts g s)) ≡ 5 * length s.sets
-unfolding verdicts
-verdicts-long g s = verdicts-length (verdicts g s) ∙ ap (λ (k : ℕ). 5 * k) (length-map s.sets (verdict g s))
 
 module _ (g : Register) (s : Sheet) (l₀ : Bytes) where
   pub verdicts-start : l₀ ≡ stored l₀ 0 (flat verdictBytes (firstVerdicts g s 0))

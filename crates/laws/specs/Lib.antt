@@ -15,6 +15,7 @@ pub mod NextRows
 pub mod NextSound
 pub mod Whole
 pub mod NextCount
+pub mod VerdictLength
 pub mod Notices
 pub mod Merging
 pub mod GatherLaws

@@ -45,9 +45,6 @@ module _ {A : Type 0} where
   pub sub-append-right : {ys zs : List A} (xs : List A) → Sub ys zs → Sub (xs ++ ys) (xs ++ zs)
   sub-append-right {ys} {zs} xs s x m = ⊎-elim (λ k. Memᴰ·append-left zs k) (λ k. Memᴰ·append-right xs (s x k)) (List·Memᴰ·append-cases xs m)
 
-  pub sub-swap : (xs ys : List A) → Sub (xs ++ ys) (ys ++ xs)
-  sub-swap xs ys x m = ⊎-elim (λ k. Memᴰ·append-right ys k) (λ k. Memᴰ·append-left xs k) (List·Memᴰ·append-cases xs m)
-
   pub keep→ : (p : A → Bool) (xs : List A) {x : A} → List·Memᴰ x (keep p xs) → List·Memᴰ x xs × (p x ≡ true)
   unfolding keep
   keep→ p [] m = absurd (List·Memᴰ·not-nil m)

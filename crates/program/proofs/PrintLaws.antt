@@ -25,7 +25,7 @@ use Rattle.laws.specs.NextSound.{next-sound}
 use Rattle.laws.specs.Exactly.{close-exactly}
 use Rattle.laws.specs.Kept.{numbered, kept-done-closing, kept-refused-closing, kept-wrote-closing}
 use Rattle.forms.proofs.SheetPlaces.{sheet-sound}
-use Rattle.closing.proofs.VerdictLaws.{verdicts-long}
+use Rattle.laws.specs.VerdictLength.{verdicts-long}
 use Rattle.report.specs.Report.{Put, report, refusedText, verdictsIn}
 use Rattle.report.proofs.VerdictLaws.{Small, verdicts-at, verdict-small}
 use Rattle.program.specs.Printed.{textOf, closedText}
