@@ -170,7 +170,7 @@ demand-1 = record {
 -- DEMAND 2: closing gives exactly the verdicts and next register of document 01's rule. Sheets and registers read back as written, one
 -- encoding each.
 pub record SecondDemand : Type 0 where
-  -- Closing that is done gives what is written by the register and the sheet that its bytes read as, all of what the next fields say.
+  -- Closing that is done gives all that the fields after this one say, of the register and the sheet that its bytes read as.
   pub closing-gives : (r t : Bytes) (n m : ℕ) (c : Closing) → closeOutcome r t n m ≡ done c
       → (g : Register) × (s : Sheet) × (readRegister r ≡ some g) × (readSheet t ≡ some s) × Writes g s c
   -- The verdicts: one a set, in csn order; commit, or the smallest key lost or found wrong.
@@ -198,7 +198,7 @@ pub record SecondDemand : Type 0 where
   pub closing-writes : (r t next verdicts : Bytes) (i j : ℕ) → CloseCall r t (closed.Wrote i j) next verdicts
       → (i ≡ length (take i next)) × (j ≡ length (take j verdicts))
       × ((g : Register) × (s : Sheet) × Gives r t g s (record { register = take i next; verdicts = take j verdicts }))
-  -- and one that answers a refusal met no smaller one that applies, and left both buffers as they were.
+  -- and one that answers a refusal answers the smallest that applies, and left both buffers as they were.
   pub closing-refuses : (r t next verdicts : Bytes) (x : Refusal) (c : CloseCall r t (closed.Refused x) next verdicts)
       → Smallest (toClose r t (length (c .lent-next)) (length (c .lent-verdicts))) x × (next ≡ c .lent-next) × (verdicts ≡ c .lent-verdicts)
   -- Asked of any closing: who keeps the promise of close meets the demand, and who meets it keeps the promise.
