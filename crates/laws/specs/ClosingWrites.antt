@@ -50,7 +50,7 @@ pub record WholeSet (g : Register) (s : Sheet) (w : WriteSet) : Type 0 where
 -- the set did not commit, and nothing at its keys is there by it
 pub record NoneOfSet (g : Register) (s : Sheet) (w : WriteSet) : Type 0 where
   pub not-committed : commits g s w ≡ false
-  pub elsewise : (r : Record) → List·Memᴰ r w.records → AtKey g s r.key
+  pub at-its-keys : (r : Record) → List·Memᴰ r w.records → AtKey g s r.key
 
 -- a closing's bytes, by the register and the sheet that were read
 pub record Writes (g : Register) (s : Sheet) (c : Closing) : Type 0 where
@@ -105,7 +105,7 @@ whole-or-none g s sound w m = go (commits g s w) refl
   where
     go : (t : Bool) → commits g s w ≡ t → WholeSet g s w ⊎ NoneOfSet g s w
     go true e = inl (record { committed = e; stands = whole g s sound w m e })
-    go false e = inr (record { not-committed = e; elsewise = λ r k. at-key g s sound r.key })
+    go false e = inr (record { not-committed = e; at-its-keys = λ r k. at-key g s sound r.key })
 
 -- one row a key
 rows-one : (g : Register) → soundRegister g ≡ true → (x y : Row) → List·Memᴰ x g.rows → List·Memᴰ y g.rows → x.key ≡ y.key → x ≡ y

@@ -2,9 +2,9 @@
 -- is the smallest lost or found wrong; no two committed sets share a key; where any set is fit, some set commits.
 use Prim.Native.Nat.{ℕ, _≤_, _<_}
 use mathlib.Core.Path.{_≡_, refl, sym, _∙_, ap, ap₂}
-use mathlib.Core.Logic.{_⊎_, ⊎-elim}
+use mathlib.Core.Logic.{_⊎_}
 use mathlib.Core.Bool.{Bool, true, false, not, false≢true}
-use mathlib.Core.List.{List, [], _∷_, List·Memᴰ, List·Memᴰ·head, List·Memᴰ·tail, List·Memᴰ·not-nil, List·Memᴰ·cases-cons}
+use mathlib.Core.List.{List, [], _∷_, List·Memᴰ, List·Memᴰ·head, List·Memᴰ·tail}
 use mathlib.Core.Option.{Option, none, some, Option·some-injective}
 use native.Mathlib.Omega.{arith}
 use borrow.Author.Tests.{eqb-true, eq-eqb, not-true, not-false}
@@ -12,7 +12,7 @@ use lib.Dec.{eqb}
 use Rattle.rules.specs.declared.row.Record.{Record}
 use Rattle.rules.specs.declared.answer.Verdict.{Verdict}
 use Rattle.rules.specs.declared.answer.Verdict.the-variants.{Commit, Lost, Unfit}
-use Rattle.rules.specs.Lists.{if_then_else_, keep, first}
+use Rattle.rules.specs.Lists.{keep, first}
 use Rattle.rules.specs.Numbers.{precedes}
 use Rattle.rules.specs.Register.{Register}
 use Rattle.rules.specs.Sheet.{WriteSet, Sheet, recordKey, soundRecords, soundSet, soundSheet}
@@ -21,7 +21,7 @@ use Rattle.laws.specs.Tests.{left, right}
 use Rattle.laws.specs.Says.{Says}
 use Rattle.laws.specs.ListLaws.{any→, →any, →all, all→, keep→, →keep, first→, first-none}
 use Rattle.laws.specs.SheetLaws.{soundSheet→}
-use Rattle.laws.specs.Rising.{Rising, nil, cons, rising→}
+use Rattle.laws.specs.Rising.{Rising, rising→, rising-first}
 use Rattle.laws.specs.Winners.{Wins, Leads, winner→, winner-is, wins→, →wins, leader-of, sheet-apart}
 
 -- ---- the sets and records of a sound sheet
@@ -166,23 +166,6 @@ VerdictSays g s w Commit = Committed g s w
 VerdictSays g s w (Lost k) = (fit g w ≡ true) × Smallest w (NotWon g s w) k
 VerdictSays g s w (Unfit k) = Smallest w (FoundWrong g) k
 
--- the first that passes has the smallest key of those that pass
-first-least : (p : Record → Bool) {rs : List Record} {r : Record} → Rising recordKey rs → first p rs ≡ some r
-    → (q : Record) → List·Memᴰ q rs → p q ≡ true → r.key ≤ q.key
-unfolding first
-first-least p {r} nil e q m t = absurd (List·Memᴰ·not-nil m)
-first-least p {r} (cons {x} {xs} g h) e q m t = go (p x) refl e (first-least p h)
-  where
-    at-head : x ≡ r → (q ≡ x) ⊎ List·Memᴰ q xs → r.key ≤ q.key
-    at-head e d =
-        let c = ap recordKey e in ⊎-elim (λ i. let b = ap recordKey i in omega arith) (λ i. let b = g q i in omega arith) d
-
-    go : (u : Bool) → p x ≡ u → (if u then some x else first p xs) ≡ some r
-        → (first p xs ≡ some r → (y : Record) → List·Memᴰ y xs → p y ≡ true → r.key ≤ y.key) → r.key ≤ q.key
-    go true i e below = at-head (Option·some-injective x r e) (List·Memᴰ·cases-cons m)
-    go false i e below =
-        ⊎-elim (λ j. absurd (false≢true (sym i ∙ ap p (sym j) ∙ t))) (λ j. below e q j t) (List·Memᴰ·cases-cons m)
-
 first-smallest : (w : WriteSet) (p : Record → Bool) {r : Record} → soundRecords w.records ≡ true → first (λ q. not (p q)) w.records ≡ some r
     → Smallest w (λ q. p q ≡ false) r.key
 first-smallest w p {r} e h =
@@ -191,7 +174,7 @@ first-smallest w p {r} e h =
     let pos : 0 < r.key = t .1 r (f .0) in
     record {
       found = (r, f .0, refl, not-true _ (f .1));
-      smallest = λ q m n. first-least (λ q. not (p q)) (t .0) h q m (ap not n);
+      smallest = λ q m n. rising-first recordKey (λ q. not (p q)) (t .0) h m (ap not n);
       some-key = omega arith;
     }
 

@@ -1,6 +1,6 @@
 -- REFUSED EXACTLY WHEN: each operation's outcome is the table of 'What is refused', read row by row. It is refused with a number just when
 -- that is the smallest that applies, and else done, with the result that document 01 names.
-use Prim.Native.Nat.{ℕ, zero, suc, _+_, _<_}
+use Prim.Native.Nat.{ℕ, zero, suc, _+_, _<_, _≤_}
 use mathlib.Core.Path.{_≡_, refl, sym, _∙_, ap}
 use mathlib.Core.Bool.{Bool, true, false, not}
 use mathlib.Core.List.{List, [], _∷_, List·Memᴰ, List·Memᴰ·head as here, List·Memᴰ·tail as later}
@@ -25,7 +25,7 @@ use Rattle.rules.specs.ReadCheck.{readCommitted, repeatableRead, snapshotIsolat
 use Rattle.rules.specs.Answers.{refusalNumber}
 use Rattle.rules.specs.Refused.{Outcome, refused, done, sheetRoom, registerRoom, verdictRoom, maxReads, openOutcome, setWith, offeredSet, offeredNotice, offerTo, putOutcome, noticeOutcome, joinSheets, joinOutcome, closing, closeSheet, closeOutcome, badCheck, checkReads, readsOutcome, checkOutcome}
 use Rattle.rules.specs.Applies.{Asked, toOpen, toPut, toNotice, toJoin, toClose, toCheck, badRegister, badSheet, badOffer, wrongEpoch, wrongRoster, spoiledThere, owes, incomplete, tooManyRows, bufferShort, badEntries, badReadCheck, applies, Smallest, NoneApplies, RefusedExactly}
-use Rattle.laws.specs.Tests.{same-tests}
+use Rattle.laws.specs.Tests.{same-tests, not-true-false}
 use Rattle.laws.specs.Says.{clash}
 use Rattle.laws.specs.ListLaws.{first→, first-none}
 use Rattle.laws.specs.Rising.{Rising, rising→, rising-first}
@@ -65,12 +65,15 @@ table-rises : Rising refusalNumber refusals
 unfolding ascendFrom _and_
 table-rises = rising→ refusalNumber 0 refusals refl .0
 
+not-both : {m n : ℕ} → m ≤ n → n < m → ⊥
+not-both h k = omega arith
+
 -- the first of the table that applies is the smallest that does
 pub smallest : (q : Asked) (x : Refusal) → firstFor q ≡ some x → Smallest q x
 unfolding firstFor
 smallest q x e = record {
   it-applies = first→ (λ y. applies y q) refusals e .1;
-  none-smaller = λ y l. rising-first refusalNumber (λ z. applies z q) table-rises e (in-table y) l;
+  none-smaller = λ y l. not-true-false (λ t. not-both (rising-first refusalNumber (λ z. applies z q) table-rises e (in-table y) t) l);
 }
 
 -- where there is none, none applies

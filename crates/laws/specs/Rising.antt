@@ -2,8 +2,8 @@
 -- later ones'. Two such lists of the same elements are equal, and one of fewer elements is no longer.
 use Prim.Native.Nat.{ℕ, _<_, _≤_}
 use mathlib.Core.Path.{_≡_, refl, sym, _∙_, ap, ap₂}
-use mathlib.Core.Logic.{⊎-elim}
-use mathlib.Core.Bool.{Bool, true, false}
+use mathlib.Core.Logic.{_⊎_, ⊎-elim}
+use mathlib.Core.Bool.{Bool, true, false, false≢true}
 use mathlib.Core.List.{List, [], _∷_, _++_, map, List·Memᴰ, List·Memᴰ·head, List·Memᴰ·tail, List·Memᴰ·not-nil, List·Memᴰ·cases-cons, List·Memᴰ·append-cases, Memᴰ·cast}
 use mathlib.Core.Option.{some, Option·some-injective}
 use native.Mathlib.Omega.{arith}
@@ -72,16 +72,17 @@ module _ {A : Type 0} (f : A → ℕ) where
       (List·Memᴰ·cases-cons m)
 
   -- the first that passes has the smallest number of those that pass
-  pub rising-first : (p : A → Bool) {xs : List A} {x y : A} → Rising xs → first p xs ≡ some x → List·Memᴰ y xs → f y < f x → p y ≡ false
+  pub rising-first : (p : A → Bool) {xs : List A} {x y : A} → Rising xs → first p xs ≡ some x → List·Memᴰ y xs → p y ≡ true → f x ≤ f y
   unfolding first
-  rising-first p nil e m l = absurd (List·Memᴰ·not-nil m)
-  rising-first p {x} {y} (cons {x = z} {xs = zs} g r) e m l = go (p z) refl e (λ d k. rising-first p r d k l)
+  rising-first p nil e m t = absurd (List·Memᴰ·not-nil m)
+  rising-first p {x} {y} (cons {x = z} {xs = zs} g r) e m t = go (p z) refl e (λ d k. rising-first p r d k t)
     where
-      go : (t : Bool) → p z ≡ t → (if t then some z else first p zs) ≡ some x → (first p zs ≡ some x → List·Memᴰ y zs → p y ≡ false) → p y ≡ false
-      go true q e below =
-          let w : z ≡ x = Option·some-injective z x e in
-          absurd (⊎-elim (λ c. not-below (c ∙ w) l) (λ k. no-loop z y (g y k) (equal (f y) x z l w)) (List·Memᴰ·cases-cons m))
-      go false q e below = ⊎-elim (λ c. ap p c ∙ q) (λ k. below e k) (List·Memᴰ·cases-cons m)
+      at-head : z ≡ x → (y ≡ z) ⊎ List·Memᴰ y zs → f x ≤ f y
+      at-head c d = let a = ap f c in ⊎-elim (λ i. let b = ap f i in omega arith) (λ i. let b = g y i in omega arith) d
+
+      go : (u : Bool) → p z ≡ u → (if u then some z else first p zs) ≡ some x → (first p zs ≡ some x → List·Memᴰ y zs → f x ≤ f y) → f x ≤ f y
+      go true q e below = at-head (Option·some-injective z x e) (List·Memᴰ·cases-cons m)
+      go false q e below = ⊎-elim (λ c. absurd (false≢true (sym q ∙ ap p (sym c) ∙ t))) (λ k. below e k) (List·Memᴰ·cases-cons m)
 
   -- what is above the head of one list, and in the other, is in the other's tail
   tails : {x y : A} {xs ys : List A} → x ≡ y → Above (f x) xs → Sub (x ∷ xs) (y ∷ ys) → Sub xs ys
