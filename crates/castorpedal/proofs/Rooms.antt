@@ -24,8 +24,8 @@ use Rattle.laws.specs.GatherSound.{FairOffer, head-of}
 use Rattle.laws.specs.Joining.{joined-sound}
 use Rattle.laws.specs.OneOffer.{one-sound, put-joins}
 use Rattle.laws.specs.NotRefused.{refused-not, open→, offer→, set→, notice→, join-sound}
-use Rattle.forms.proofs.SheetPlaces.{sheet-length, total-few}
-use Rattle.gather.proofs.OneLaws.{empty-length}
+use Rattle.sheets.specs.SheetPlaces.{sheet-length, total-few}
+use Rattle.gather.specs.OneLaws.{empty-length}
 use Rattle.castorpedal.specs.declared.answer.CAnswer.{CAnswer}
 use Rattle.castorpedal.specs.Exported.{Within, Told, Kept}
 

@@ -2,4 +2,4 @@
 mod answer;
 mod check;
 mod epoch;
-mod sheets;
+mod gathering;

@@ -9,7 +9,7 @@ use borrow.Author.Tests.{lt-ltb, le-ltb}
 use lib.ListN.{length, length-append}
 use lib.Dec.{eqb}
 use Rattle.words.specs.Words.{Bytes, le, stored}
-use Rattle.words.proofs.Laws.{le-length, then-stored, stored-front}
+use Rattle.words.specs.WordLaws.{le-length, then-stored, stored-front}
 use Rattle.rules.specs.declared.answer.Closed.{Closed}
 use Rattle.rules.specs.declared.answer.Closed.the-variants as closed
 use Rattle.rules.specs.Lists.{_or_, flat}
@@ -21,8 +21,8 @@ use Rattle.rules.specs.Refused.{Outcome, refused, done, Closing, closing, regis
 use Rattle.rules.specs.Promises.{over, toldClosing, leftRegister, leftVerdicts, ClosePromise}
 use Rattle.laws.specs.RegisterLaws.{register-read, register-length}
 use Rattle.laws.specs.SheetLaws.{sheet-read, sheet-unread}
-use Rattle.forms.specs.RegisterForm.{placeOf, registerHead}
-use Rattle.closing.specs.Judged.{closeComplete}
+use Rattle.registers.specs.RegisterForm.{placeOf, registerHead}
+use Rattle.judging.specs.Judged.{closeComplete}
 use Rattle.laws.specs.VerdictLength.{verdicts-long}
 
 -- the same of an equal outcome

@@ -1,12 +1,4 @@
-pub mod Places
-pub mod CompleteLaws
-pub mod Sheets
-pub mod Firsts
-pub mod FitLaws
-pub mod WinnerLaws
 pub mod VerdictLaws
-pub mod AppliedLaws
-pub mod InsertLaws
 pub mod RowLaws
 pub mod NextWritten
 pub mod RowsWritten

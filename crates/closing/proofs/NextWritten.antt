@@ -22,13 +22,13 @@ use Rattle.laws.specs.Distinct.{tri, less, more, equal}
 use Rattle.laws.specs.Rising.{Rising, nil, cons, rising→, rising-unique, rising-keep, rising-append}
 use Rattle.laws.specs.Applied.{applied→, applied-each, appliedTo-is}
 use Rattle.laws.specs.NextRows.{gone, remains, key-stays, next→, →next-old, →next-insert, insert-absent, next-rising, next-above}
-use Rattle.forms.specs.RegisterForm.{rowAt, noRow}
-use Rattle.forms.specs.SheetReadings.{setAt, recordAt}
-use Rattle.closing.specs.Judged.{lostKey, Tells, Inserts, InsertsIn, LeastAbove}
-use Rattle.closing.proofs.Places.{mem-at, at-mem}
-use Rattle.closing.proofs.Sheets.{set-number, record-number}
-use Rattle.closing.proofs.FitLaws.{larger}
-use Rattle.closing.proofs.AppliedLaws.{commits-told, applied-at}
+use Rattle.registers.specs.RegisterForm.{rowAt, noRow}
+use Rattle.sheets.specs.SheetReadings.{setAt, recordAt}
+use Rattle.judging.specs.Judged.{lostKey, Tells, Inserts, InsertsIn, LeastAbove}
+use Rattle.laws.specs.Places.{mem-at, at-mem}
+use Rattle.sheets.specs.SheetMembers.{set-number, record-number}
+use Rattle.judging.specs.FitLaws.{larger}
+use Rattle.judging.specs.AppliedLaws.{commits-told, applied-at}
 
 -- the rows whose keys are at most a
 unfoldable pub upTo : ℕ → List Row → List Row

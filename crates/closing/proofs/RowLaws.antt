@@ -23,9 +23,9 @@ use Rattle.laws.specs.Applied.{applied-sound, appliedTo→}
 use Rattle.laws.specs.NextRows.{gone, remains, remainingRow}
 use Rattle.laws.specs.NextCount.{next-count}
 use Rattle.laws.specs.Says.{Says, is-lt, is-eq, _also_, _or-else_, clash}
-use Rattle.forms.specs.RegisterForm.{rowAt, placeOf}
-use Rattle.forms.specs.SheetReadings.{setAt}
-use Rattle.closing.specs.Judged.{numbered, recordOr0, ofKind, rowFirst}
+use Rattle.registers.specs.RegisterForm.{rowAt, placeOf}
+use Rattle.sheets.specs.SheetReadings.{setAt}
+use Rattle.judging.specs.Judged.{numbered, recordOr0, ofKind, rowFirst}
 
 -- ---- the mark
 

@@ -10,7 +10,7 @@ use borrow.Author.Tests.{eqb-false, ne-eqb}
 use lib.ListN.{length, length-append}
 use lib.Dec.{eqb}
 use Rattle.words.specs.Words.{Bytes, stored}
-use Rattle.words.proofs.Laws.{length-stored, then-stored}
+use Rattle.words.specs.WordLaws.{length-stored, then-stored}
 use Rattle.rules.specs.declared.row.Row.{Row}
 use Rattle.rules.specs.declared.row.Record.{Record}
 use Rattle.rules.specs.Lists.{if_then_else_, flat}
@@ -18,10 +18,10 @@ use Rattle.rules.specs.Register.{soundRegister, rowBytes, registerIn}
 use Rattle.rules.specs.Sheet.{soundSheet, sheetIn}
 use Rattle.rules.specs.Closing.{applied, appliedTo, insertedRow, nextRows}
 use Rattle.laws.specs.RegisterLaws.{register-sound, rows-length}
-use Rattle.forms.specs.RegisterForm.{rowAt, placeOf}
-use Rattle.forms.proofs.SheetPlaces.{sheet-sound}
-use Rattle.closing.specs.Judged.{Judged, becomes, LeastAbove}
-use Rattle.closing.proofs.AppliedLaws.{flat-append}
+use Rattle.registers.specs.RegisterForm.{rowAt, placeOf}
+use Rattle.laws.specs.SheetLaws.{sheet-sound}
+use Rattle.judging.specs.Judged.{Judged, becomes, LeastAbove}
+use Rattle.judging.specs.AppliedLaws.{flat-append}
 use Rattle.closing.proofs.RowLaws.{one-row}
 use Rattle.closing.proofs.NextWritten.{upTo, upTo-length, New, At, old-next, old-written, insert-next, insert-record, at-start, none-written, all-written}
 

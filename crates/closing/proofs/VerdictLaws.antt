@@ -10,7 +10,7 @@ use borrow.Author.Tests.{ne-eqb}
 use lib.ListN.{length, getD, take, length-map}
 use lib.Seq.{take-all, length-take-le}
 use Rattle.words.specs.Words.{Bytes, stored}
-use Rattle.words.proofs.Laws.{then-stored}
+use Rattle.words.specs.WordLaws.{then-stored}
 use Rattle.rules.specs.declared.row.Record.{Record}
 use Rattle.rules.specs.declared.answer.Verdict.{Verdict}
 use Rattle.rules.specs.declared.answer.Verdict.the-variants.{Lost, Unfit}
@@ -22,8 +22,8 @@ use Rattle.rules.specs.Refused.{verdictBytes}
 use Rattle.laws.specs.ListLaws.{first→}
 use Rattle.laws.specs.Commits.{records-rising}
 use Rattle.laws.specs.VerdictLength.{verdicts-length}
-use Rattle.forms.specs.SheetReadings.{setAt, noSet}
-use Rattle.closing.specs.Judged.{keyOr0, wrongKey, lostKey, verdictBy}
+use Rattle.sheets.specs.SheetReadings.{setAt, noSet}
+use Rattle.judging.specs.Judged.{keyOr0, wrongKey, lostKey, verdictBy}
 
 by-unfit : (a b : ℕ) → 0 < a → verdictBy a b ≡ Unfit a
 unfolding verdictBy

@@ -1,7 +1,4 @@
 // Closing: the refusals in document 01's order, then the verdicts and the count of the next rows, and only then the writing.
-use crate::complete::complete;
-use crate::fit::find_wrong;
-use crate::judge::find_lost;
 use crate::rows::next_count;
 use crate::rows::put_rows;
 use crate::verdicts::put_verdicts;
@@ -14,6 +11,9 @@ use forms::put_register_head;
 use forms::set_count;
 use forms::snapshot;
 use forms::verdicts_length;
+use judging::complete;
+use judging::find_lost;
+use judging::find_wrong;
 use rules::Closed;
 use rules::MAX_ROWS;
 use rules::MAX_SETS;
@@ -32,7 +32,7 @@ ghost use Rattle.rules.specs.Sheet.{isSheet, sheetIn};
 ghost use Rattle.rules.specs.Closing.{nextRows, next};
 ghost use Rattle.rules.specs.Refused.{closeSheet, closeOutcome};
 ghost use Rattle.rules.specs.Promises.{ClosePromise};
-ghost use Rattle.closing.specs.Judged.{Judged, closeComplete};
+ghost use Rattle.judging.specs.Judged.{Judged, closeComplete};
 
 // Whether the sheet is of the epoch after the register's snapshot, over whole numbers: none follows the last.
 fn follows(register: &[u8], sheet: &[u8]) -> bool

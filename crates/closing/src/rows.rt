@@ -1,14 +1,14 @@
 // The rows of the next register, written in the order of their keys: the old ones that remain, and those that committed sets insert.
-use crate::applied::applied;
-use crate::applied::applied_count;
-use crate::applied::next_insert;
-use crate::judge::mark_of;
-use crate::judge::winner;
 use forms::put_row;
 use forms::row;
 use forms::row_count;
 use forms::row_key;
 use forms::set_count;
+use judging::applied;
+use judging::applied_count;
+use judging::mark_of;
+use judging::next_insert;
+use judging::winner;
 use rules::Mark;
 use rules::Record;
 use rules::Row;
@@ -22,8 +22,8 @@ ghost use Rattle.rules.specs.Lists.{flat};
 ghost use Rattle.rules.specs.Register.{Register, isRegister, registerIn, rowBytes};
 ghost use Rattle.rules.specs.Sheet.{isSheet, sheetIn};
 ghost use Rattle.rules.specs.Closing.{markAfter, applied, appliedTo, insertedRow, nextRows};
-ghost use Rattle.forms.specs.RegisterForm.{placeOf};
-ghost use Rattle.closing.specs.Judged.{wrongKey, lostKey, Tells, Judged, becomes, rowFirst};
+ghost use Rattle.registers.specs.RegisterForm.{placeOf};
+ghost use Rattle.judging.specs.Judged.{wrongKey, lostKey, Tells, Judged, becomes, rowFirst};
 
 // How many rows the next register has: the old ones and the inserts, less the deletes.
 pub fn next_count(register: &[u8], sheet: &[u8], wrong: &[u32], lost: &[u32]) -> usize

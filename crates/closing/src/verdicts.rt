@@ -12,7 +12,7 @@ ghost use Rattle.rules.specs.Register.{Register};
 ghost use Rattle.rules.specs.Sheet.{isSheet, sheetIn};
 ghost use Rattle.rules.specs.Closing.{verdicts};
 ghost use Rattle.rules.specs.Refused.{verdictBytes};
-ghost use Rattle.closing.specs.Judged.{wrongKey, lostKey, Tells, verdictBy};
+ghost use Rattle.judging.specs.Judged.{wrongKey, lostKey, Tells, verdictBy};
 
 // The verdict of a set whose first key found wrong and first key lost are these.
 fn verdict_of(wrong: u32, lost: u32) -> Verdict

@@ -1,5 +1,2 @@
-pub mod SheetReadings
-pub mod RegisterForm
-pub mod SheetForm
-pub mod SheetLength
 pub mod VerdictForm
+pub mod VerdictPlaces

@@ -10,7 +10,7 @@ use lib.ListN.{length, take, drop}
 use lib.Seq.{take-at}
 use lib.Dec.{ltb, leb, eqb}
 use Rattle.words.specs.Words.{Bytes, stored}
-use Rattle.words.proofs.Laws.{stored-front, length-stored}
+use Rattle.words.specs.WordLaws.{stored-front, length-stored}
 use Rattle.rules.specs.declared.answer.Refusal.{Refusal}
 use Rattle.rules.specs.declared.answer.Refusal.the-variants.{WrongEpoch, WrongRoster, BufferShort}
 use Rattle.rules.specs.Answers.{refusalNumber}
@@ -23,10 +23,9 @@ use Rattle.rules.specs.Promises.{over}
 use Rattle.laws.specs.Tests.{both}
 use Rattle.laws.specs.FormLaws.{→fits}
 use Rattle.laws.specs.Says.{Says, is-le, itself, _also_}
-use Rattle.laws.specs.SheetLaws.{sheet-decoded, sheet-is, sheet-read, sheet-unread, records-read, records-unread, written-records}
+use Rattle.laws.specs.SheetLaws.{sheet-decoded, sheet-is, sheet-read, sheet-unread, records-read, records-unread, written-records, sheet-sound}
 use Rattle.laws.specs.GatherSound.{FairOffer, head-of}
 use Rattle.laws.specs.OneOffer.{one-sound, put-joins}
-use Rattle.forms.proofs.SheetPlaces.{sheet-sound}
 use Rattle.gather.specs.declared.offer.Admission.{Admission}
 use Rattle.gather.specs.declared.offer.Admission.the-variants as admission
 use Rattle.gather.specs.OneSheet.{Small, Written, setOf, noticeBy}

@@ -10,22 +10,22 @@ use native.Mathlib.Omega.{arith}
 use lib.ListN.{length, getD, take, drop, length-drop}
 use lib.Seq.{length-take-le, take-suc, getD-drop}
 use Rattle.words.specs.Words.{Bytes, stored}
-use Rattle.words.proofs.Laws.{nothing-stored, then-stored, length-stored}
+use Rattle.words.specs.WordLaws.{nothing-stored, then-stored, length-stored}
 use Rattle.rules.specs.Lists.{flat, upFrom}
 use Rattle.rules.specs.Sheet.{WriteSet, Sheet, masters, recordsBytes, contentsFrom, bodies, sheetBytes, isSheet, sheetIn, soundSet}
 use Rattle.rules.specs.Gathering.{distinct, noNotices, soundOf, spoiledSheet}
 use Rattle.laws.specs.ListLaws.{all→, getD-upFrom}
-use Rattle.laws.specs.SheetLaws.{soundSet→, soundSheet→}
+use Rattle.laws.specs.SheetLaws.{soundSet→, soundSheet→, sheet-sound}
 use Rattle.laws.specs.Distinct.{distinct→}
 use Rattle.laws.specs.Joining.{noticeTogether, together, joinHeld}
-use Rattle.forms.specs.SheetReadings.{noSet, total, entryBytes, startBytes}
-use Rattle.forms.proofs.SheetWritten.{total-more, contents-more, bodies-more, sheet-stored, sheet-over}
-use Rattle.forms.proofs.SheetPlaces.{sheet-sound, total-mono, sheet-length}
-use Rattle.gather.specs.declared.next.Entry.{Entry}
-use Rattle.gather.specs.declared.place.Place.{Place}
-use Rattle.gather.specs.Walk.{behind, nextAt, Both, At, Ahead, Numbers, Advanced, Room}
+use Rattle.sheets.specs.SheetReadings.{noSet, total, entryBytes, startBytes}
+use Rattle.sheets.specs.SheetWritten.{total-more, contents-more, bodies-more, sheet-stored, sheet-over}
+use Rattle.sheets.specs.SheetPlaces.{total-mono, sheet-length}
+use Rattle.walk.specs.declared.next.Entry.{Entry}
+use Rattle.walk.specs.declared.place.Place.{Place}
+use Rattle.walk.specs.Walk.{behind, nextAt, Both, At, Ahead, Numbers, Advanced, Room}
 use Rattle.gather.specs.OneSheet.{Written}
-use Rattle.gather.proofs.Steps.{from}
+use Rattle.walk.specs.Steps.{from}
 
 -- ---- one more
 

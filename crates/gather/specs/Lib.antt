@@ -1,3 +1,3 @@
 pub mod OneSheet
 pub mod Offers
-pub mod Walk
+pub mod OneLaws

@@ -1,9 +1,4 @@
 // The sheet that two sheets are joined to if nothing spoils it, written straight into the lent bytes: head, contents, bodies.
-use crate::next::next_entry;
-use crate::next::next_records;
-use crate::notices::notice_together;
-use crate::place::Place;
-use crate::place::advance;
 use forms::epoch;
 use forms::length_with;
 use forms::put_body;
@@ -11,6 +6,11 @@ use forms::put_entry;
 use forms::put_notice;
 use forms::put_sheet_start;
 use forms::roster;
+use walk::Place;
+use walk::advance;
+use walk::next_entry;
+use walk::next_records;
+use walk::notice_together;
 ghost use mathlib.Core.Path.{_≡_};
 ghost use mathlib.Core.List.{map};
 ghost use Prim.Native.Nat.{_≤_};
@@ -18,8 +18,8 @@ ghost use lib.ListN.{length};
 ghost use Rattle.words.specs.Words.{stored};
 ghost use Rattle.rules.specs.Sheet.{sheetIn, masters, contentsFrom, bodies};
 ghost use Rattle.laws.specs.Joining.{noticeTogether, together, joinHeld};
-ghost use Rattle.forms.specs.SheetReadings.{entryPlace, total};
-ghost use Rattle.gather.specs.Walk.{Both, Room};
+ghost use Rattle.sheets.specs.SheetReadings.{entryPlace, total};
+ghost use Rattle.walk.specs.Walk.{Both, Room};
 ghost use Rattle.gather.specs.OneSheet.{Written};
 
 fn put_notices(a: &[u8], b: &[u8], out: &mut [u8])

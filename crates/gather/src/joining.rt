@@ -1,7 +1,5 @@
 // Joining two sheets: what spoils it is decided first, and then the sheet is written straight into the lent bytes.
-use crate::count::count;
 use crate::held::put_held;
-use crate::spoil::spoils;
 use forms::epoch;
 use forms::is_sheet;
 use forms::is_spoiled;
@@ -12,6 +10,8 @@ use forms::roster;
 use rules::Answer;
 use rules::Refusal;
 use rules::SHEET_ROOM;
+use walk::count;
+use walk::spoils;
 ghost use mathlib.Core.Path.{_≡_};
 ghost use mathlib.Core.Bool.{true};
 ghost use Prim.Native.Nat.{_≤_};

@@ -39,3 +39,6 @@ pub mod Closers
 pub mod WrongClosers
 pub mod ClosingWrites
 pub mod FirstFailing
+pub mod BytesHere
+pub mod Loops
+pub mod Places

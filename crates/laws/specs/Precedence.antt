@@ -8,7 +8,7 @@ use native.Mathlib.Omega.{arith}
 use borrow.Author.Tests.{ltb-true, ltb-false, lt-ltb, le-ltb}
 use Rattle.rules.specs.declared.mark.Mark.{Mark}
 use Rattle.rules.specs.Numbers.{precedes, earlier}
-use Rattle.rules.proofs.Cases.{by-cen, by-sen, by-csn}
+use Rattle.rules.specs.Cases.{by-cen, by-sen, by-csn}
 use Rattle.laws.specs.Tests.{not-true-false}
 
 -- the same as facts on the numbers

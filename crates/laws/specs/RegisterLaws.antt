@@ -9,7 +9,7 @@ use native.Mathlib.Omega.{arith}
 use borrow.Author.Tests.{leb-true, le-leb}
 use lib.ListN.{length, getD, drop, length-append}
 use Rattle.words.specs.Words.{Bytes, le, word}
-use Rattle.words.proofs.Laws.{le-length, word-le, word-drop}
+use Rattle.words.specs.WordLaws.{le-length, word-le, word-drop}
 use Rattle.rules.specs.declared.row.Row.{Row}
 use Rattle.rules.specs.Lists.{all, flat, ascendFrom, same}
 use Rattle.rules.specs.Forms.{wellFormed, read}

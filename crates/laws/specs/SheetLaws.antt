@@ -11,13 +11,13 @@ use lib.ListN.{length, getD, take, drop, length-append}
 use lib.Seq.{take-at, drop-at, drop-drop, getD-drop}
 use lib.Dec.{eqb}
 use Rattle.words.specs.Words.{Bytes, le, word, part}
-use Rattle.words.proofs.Laws.{word-drop, word-le}
+use Rattle.words.specs.WordLaws.{word-drop, word-le}
 use Rattle.rules.specs.declared.row.Record.{Record}
 use Rattle.rules.specs.Lists.{all, flat, same}
 use Rattle.rules.specs.Sheet.{WriteSet, Sheet, maxSets, maxRecords, soundValue, soundRecord, soundRecords, soundSet, soundSheet, recordBytes, recordsBytes, contentsFrom, bodies, stateByte, headBytes, sheetBytes, recordIn, recordsIn, setsIn, sheetIn, isSheet, readSheet, offeredRecords, areRecords, readRecords}
 use Rattle.rules.specs.Forms.{wellFormed, read}
 use Rattle.laws.specs.Tests.{left, right, both}
-use Rattle.laws.specs.FormLaws.{fits→, same-refl, read-encoded, read-exact}
+use Rattle.laws.specs.FormLaws.{fits→, same→, same-refl, read-encoded, read-exact}
 
 -- ---- records
 
@@ -200,6 +200,15 @@ unfolding isSheet wellFormed
 sheet-is s e =
     let d = sheet-decoded s e in
     both (ap soundSheet d ∙ e) (ap (λ (x : Sheet). same (sheetBytes x) (sheetBytes s)) d ∙ same-refl (sheetBytes s))
+
+-- what the test says: the contents are sound, and the bytes are theirs
+pub sheet-sound : (b : Bytes) → isSheet b ≡ true → soundSheet (sheetIn b) ≡ true
+unfolding isSheet wellFormed
+sheet-sound b e = left _ _ e
+
+pub sheet-exact : (b : Bytes) → isSheet b ≡ true → sheetBytes (sheetIn b) ≡ b
+unfolding isSheet wellFormed
+sheet-exact b e = same→ _ _ (right _ _ e)
 
 pub sheet-read : (b : Bytes) → isSheet b ≡ true → readSheet b ≡ some (sheetIn b)
 unfolding isSheet readSheet read

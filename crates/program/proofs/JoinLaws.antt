@@ -7,7 +7,7 @@ use native.Mathlib.Omega.{arith}
 use lib.ListN.{length, take, length-take}
 use lib.Dec.{eqb}
 use Rattle.words.specs.Words.{Bytes, part, stored}
-use Rattle.words.proofs.Laws.{stored-front}
+use Rattle.words.specs.WordLaws.{stored-front}
 use Rattle.rules.specs.declared.answer.Refusal.{Refusal}
 use Rattle.rules.specs.declared.answer.Answer.{Answer}
 use Rattle.rules.specs.declared.answer.Answer.the-variants.{Wrote, Refused}

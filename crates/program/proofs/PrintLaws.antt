@@ -24,10 +24,10 @@ use Rattle.laws.specs.RegisterLaws.{register-decoded, register-is, register-sou
 use Rattle.laws.specs.NextSound.{next-sound}
 use Rattle.laws.specs.Exactly.{close-exactly}
 use Rattle.laws.specs.Kept.{numbered, kept-done-closing, kept-refused-closing, kept-wrote-closing}
-use Rattle.forms.proofs.SheetPlaces.{sheet-sound}
+use Rattle.laws.specs.SheetLaws.{sheet-sound}
 use Rattle.laws.specs.VerdictLength.{verdicts-long}
 use Rattle.report.specs.Report.{Put, report, refusedText, verdictsIn}
-use Rattle.report.proofs.VerdictLaws.{Small, verdicts-at, verdict-small}
+use Rattle.report.specs.VerdictLaws.{Small, verdicts-at, verdict-small}
 use Rattle.program.specs.Printed.{textOf, closedText}
 
 -- of a closing that wrote n bytes of the next register into a, and the verdicts into b

@@ -16,7 +16,7 @@ use Rattle.rules.specs.Lists.{first}
 use Rattle.rules.specs.Register.{Register, keyOf, registerIn, isRegister}
 use Rattle.laws.specs.Says.{ascends}
 use Rattle.laws.specs.RegisterLaws.{RegisterSound, soundRegister→, register-sound}
-use Rattle.forms.specs.RegisterForm.{noRow, rowAt}
+use Rattle.registers.specs.RegisterForm.{noRow, rowAt}
 use Rattle.reads.specs.Steps.{rowWith}
 
 module _ {A : Type 0} (p : A → Bool) (d : A) where

@@ -15,11 +15,11 @@ use Rattle.rules.specs.Lists.{flat}
 use Rattle.rules.specs.Register.{Register, isRegister, registerIn}
 use Rattle.rules.specs.Sheet.{Sheet, csnOf}
 use Rattle.laws.specs.RegisterLaws.{soundRegister→, register-sound}
-use Rattle.forms.specs.RegisterForm.{noRow, rowAt}
-use Rattle.forms.specs.SheetReadings.{noSet, setAt}
+use Rattle.registers.specs.RegisterForm.{noRow, rowAt}
+use Rattle.sheets.specs.SheetReadings.{noSet, setAt}
 use Rattle.report.specs.Report.{Put, snapshotLine, rowLine, setLine, setLines}
 use Rattle.forms.specs.VerdictForm.{verdictsIn, verdictAt}
-use Rattle.forms.proofs.VerdictPlaces.{verdicts-count}
+use Rattle.forms.specs.VerdictPlaces.{verdicts-count}
 use Rattle.report.proofs.PutLaws.{then-put}
 
 flat-more : {A : Type 0} (f : A → Bytes) (xs : List A) (i : ℕ) (d : A) → i < length xs → flat f (take (suc i) xs) ≡ flat f (take i xs) ++ f (getD xs i d)

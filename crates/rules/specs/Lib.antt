@@ -11,3 +11,4 @@ pub mod Applies
 pub mod Answers
 pub mod Promises
 pub mod Settled
+pub mod Cases

@@ -1,6 +1,7 @@
 // The vocabulary of document 01: marks, rows, records and reads as values, and the answers of the operations.
 // The rules themselves are the definitions in specs/.
 mod answer;
+mod extent;
 mod limit;
 mod mark;
 mod row;
@@ -11,6 +12,7 @@ pub use answer::Closed;
 pub use answer::Reason;
 pub use answer::Refusal;
 pub use answer::Verdict;
+pub use extent::Extent;
 pub use limit::MAX_NOTICE;
 pub use limit::MAX_READS;
 pub use limit::MAX_ROWS;

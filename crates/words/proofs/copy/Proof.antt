@@ -6,7 +6,7 @@ use native.Mathlib.Numerals.{add-one}
 use denote.Ref.{now}
 use lib.ListN.{length, drop, length-set, length-drop}
 use lib.Seq.{paste, paste-zero, paste-suc, getD-drop}
-use Rattle.words.proofs.Laws.{copied}
+use Rattle.words.specs.WordLaws.{copied}
 use Rattle.words.proofs.copy.Statement.{statement}
 use Rattle.words.proofs.copy.Tie as tie
 

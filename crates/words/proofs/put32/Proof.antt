@@ -1,5 +1,5 @@
 -- `words::put32` stores its halves, by the law over the width.
-use Rattle.words.proofs.Laws.{halves}
+use Rattle.words.specs.WordLaws.{halves}
 use borrow.Author.Needs.{needs}
 use Rattle.words.proofs.put32.Statement.{statement}
 use Rattle.words.proofs.put32.Tie as tie

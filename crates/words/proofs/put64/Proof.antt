@@ -1,5 +1,5 @@
 -- `words::put64` stores its halves, by the law over the width.
-use Rattle.words.proofs.Laws.{halves}
+use Rattle.words.specs.WordLaws.{halves}
 use borrow.Author.Needs.{needs}
 use Rattle.words.proofs.put64.Statement.{statement}
 use Rattle.words.proofs.put64.Tie as tie

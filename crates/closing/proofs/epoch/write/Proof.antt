@@ -3,7 +3,7 @@ use native.Mathlib.Omega.{arith}
 use denote.Ref.{now}
 use Rattle.rules.specs.Register.{registerIn}
 use Rattle.rules.specs.Sheet.{sheetIn}
-use Rattle.forms.proofs.SheetPlaces.{few-sets}
+use Rattle.sheets.specs.SheetPlaces.{few-sets}
 use Rattle.closing.proofs.CloseLaws.{closes}
 use borrow.Author.Needs.{needs}
 use Rattle.closing.proofs.epoch.write.Statement.{statement}

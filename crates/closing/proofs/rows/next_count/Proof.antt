@@ -4,7 +4,7 @@ use denote.Ref.{now}
 use Rattle.rules.specs.Register.{registerIn}
 use Rattle.rules.specs.Sheet.{sheetIn}
 use Rattle.laws.specs.RegisterLaws.{register-sound, soundRegister→}
-use Rattle.forms.proofs.SheetPlaces.{sheet-sound}
+use Rattle.laws.specs.SheetLaws.{sheet-sound}
 use Rattle.closing.proofs.RowLaws.{counted}
 use borrow.Author.Needs.{needs}
 use Rattle.closing.proofs.rows.next_count.Statement.{statement}

@@ -4,7 +4,7 @@ use denote.Ref.{now}
 use Rattle.rules.specs.declared.row.Row.{Row}
 use Rattle.words.specs.Words.{stored}
 use Rattle.rules.specs.Register.{rowBytes}
-use Rattle.forms.specs.RegisterForm.{placeOf}
+use Rattle.registers.specs.RegisterForm.{placeOf}
 use Rattle.closing.proofs.RowLaws.{inserted-is}
 use borrow.Author.Needs.{needs}
 use Rattle.closing.proofs.rows.put_insert.Statement.{statement}

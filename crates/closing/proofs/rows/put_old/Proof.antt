@@ -5,7 +5,7 @@ use native.Mathlib.Omega.{arith}
 use denote.Ref.{now}
 use Rattle.rules.specs.Register.{registerIn}
 use Rattle.rules.specs.Sheet.{sheetIn}
-use Rattle.forms.proofs.SheetPlaces.{sheet-sound}
+use Rattle.laws.specs.SheetLaws.{sheet-sound}
 use Rattle.closing.proofs.RowLaws.{stays-length, gone-written, stays-written, value-new, value-old}
 use borrow.Author.Needs.{needs}
 use Rattle.closing.proofs.rows.put_old.Statement.{statement}

@@ -6,14 +6,14 @@ use denote.Ref.{now}
 use lib.ListN.{length}
 use borrow.Author.Needs.{needs}
 use Rattle.words.specs.Words.{stored}
-use Rattle.words.proofs.Laws.{length-stored}
+use Rattle.words.specs.WordLaws.{length-stored}
 use Rattle.rules.specs.Lists.{flat}
 use Rattle.rules.specs.Register.{Register}
 use Rattle.rules.specs.Sheet.{sheetIn}
 use Rattle.rules.specs.Refused.{verdictBytes}
-use Rattle.forms.proofs.SheetPlaces.{few-sets}
-use Rattle.closing.specs.Judged.{wrongKey, lostKey, Tells, verdictBy}
-use Rattle.closing.proofs.Sheets.{records-sound}
+use Rattle.sheets.specs.SheetPlaces.{few-sets}
+use Rattle.judging.specs.Judged.{wrongKey, lostKey, Tells, verdictBy}
+use Rattle.sheets.specs.SheetMembers.{records-sound}
 use Rattle.closing.proofs.VerdictLaws.{verdict-by, firstVerdicts, verdicts-start, verdicts-step, verdicts-end}
 use Rattle.closing.proofs.verdicts.put_verdicts.Statement.{statement}
 use Rattle.closing.proofs.verdicts.put_verdicts.Tie as tie

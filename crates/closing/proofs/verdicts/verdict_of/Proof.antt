@@ -1,6 +1,6 @@
 -- Unfit comes before lost, and lost before commit.
 use borrow.Author.Tests.{eq-eqb, ne-eqb}
-use Rattle.closing.specs.Judged.{verdictBy}
+use Rattle.judging.specs.Judged.{verdictBy}
 use Rattle.closing.proofs.verdicts.verdict_of.Statement.{statement}
 use Rattle.closing.proofs.verdicts.verdict_of.Tie as tie
 

@@ -1,7 +1,7 @@
 -- A byte, and the four after it.
 use mathlib.Core.Path.{_∙_, ap}
 use lib.ListN.{length, length-set}
-use Rattle.words.proofs.Laws.{length-stored}
+use Rattle.words.specs.WordLaws.{length-stored}
 use native.Mathlib.Numerals.{add-one}
 use native.Mathlib.Omega.{arith}
 use Rattle.words.specs.Words.{stored}

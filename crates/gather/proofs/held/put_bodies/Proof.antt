@@ -1,11 +1,11 @@
 -- After k turns the bodies of the first k sets are written.
-use Rattle.words.proofs.Laws.{nothing-stored}
+use Rattle.words.specs.WordLaws.{nothing-stored}
 use Rattle.gather.proofs.Writing.{total-next, bodies-next, still-ahead, next-is, behind-next, count-is, fits-next, one-more, as-long}
-use Rattle.forms.proofs.SheetPlaces.{bodies-length}
+use Rattle.sheets.specs.SheetPlaces.{bodies-length}
 use Rattle.laws.specs.SheetLaws.{records-length}
-use Rattle.gather.proofs.Walks.{start-at, start-behind, on}
-use Rattle.gather.specs.Walk.{behind, nextAt, At}
-use Rattle.forms.specs.SheetReadings.{total}
+use Rattle.walk.specs.Walks.{start-at, start-behind, on}
+use Rattle.walk.specs.Walk.{behind, nextAt, At}
+use Rattle.sheets.specs.SheetReadings.{total}
 use Rattle.laws.specs.Joining.{together}
 use Rattle.rules.specs.Lists.{flat}
 use Rattle.rules.specs.Sheet.{WriteSet, sheetIn, bodies, recordsBytes}

@@ -1,10 +1,10 @@
 -- After k turns the entries of the first k sets are written.
-use Rattle.words.proofs.Laws.{nothing-stored}
+use Rattle.words.specs.WordLaws.{nothing-stored}
 use Rattle.gather.proofs.Writing.{total-next, contents-next, still-ahead, next-is, behind-next, count-is, fits-next, entry-is, one-more, as-long, take-few}
 use Rattle.laws.specs.SheetLaws.{contents-length}
-use Rattle.gather.proofs.Walks.{start-at, start-behind, on}
-use Rattle.gather.specs.Walk.{behind, nextAt, At}
-use Rattle.forms.specs.SheetReadings.{noSet, total}
+use Rattle.walk.specs.Walks.{start-at, start-behind, on}
+use Rattle.walk.specs.Walk.{behind, nextAt, At}
+use Rattle.sheets.specs.SheetReadings.{noSet, total}
 use Rattle.laws.specs.Joining.{together}
 use Rattle.rules.specs.Sheet.{WriteSet, sheetIn, contentsFrom}
 use Rattle.words.specs.Words.{Bytes, stored}

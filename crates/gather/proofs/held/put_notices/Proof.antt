@@ -1,5 +1,5 @@
 -- After m turns the notices of the masters below m are written.
-use Rattle.words.proofs.Laws.{nothing-stored}
+use Rattle.words.specs.WordLaws.{nothing-stored}
 use Rattle.gather.proofs.Writing.{notices-next, notices-length, one-more, as-long}
 use Rattle.laws.specs.Joining.{noticeTogether}
 use Rattle.rules.specs.Sheet.{sheetIn, masters}

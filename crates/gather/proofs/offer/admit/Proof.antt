@@ -4,7 +4,7 @@ use denote.Ref.{now}
 use mathlib.Core.Path.{_∙_, sym}
 use Rattle.laws.specs.Says.{said-no, said-yes}
 use Rattle.rules.specs.Sheet.{sheetIn}
-use Rattle.forms.proofs.SheetPlaces.{room}
+use Rattle.sheets.specs.SheetPlaces.{room}
 use Rattle.gather.proofs.OfferLaws.{other-epoch, other-roster, short, granted}
 use borrow.Author.Needs.{needs}
 use Rattle.gather.proofs.offer.admit.Statement.{statement}

@@ -1,5 +1,5 @@
 -- The head alone, with one notice.
-use Rattle.gather.proofs.OneLaws.{notice-held}
+use Rattle.gather.specs.OneLaws.{notice-held}
 use borrow.Author.Needs.{needs}
 use Rattle.gather.proofs.one.one_notice.Statement.{statement}
 use Rattle.gather.proofs.one.one_notice.Tie as tie

@@ -1,7 +1,7 @@
 -- Head, entry and body, each where the one before it ends.
 use native.Mathlib.Omega.{arith}
 use denote.Ref.{now}
-use Rattle.gather.proofs.OneLaws.{offered, set-held}
+use Rattle.gather.specs.OneLaws.{offered, set-held}
 use borrow.Author.Needs.{needs}
 use Rattle.gather.proofs.one.one_set.Statement.{statement}
 use Rattle.gather.proofs.one.one_set.Tie as tie

@@ -1,5 +1,5 @@
 -- Opening refuses as the paper does, and writes the empty sheet.
-use Rattle.gather.proofs.OneLaws.{no-epoch, no-roster, no-room, opened}
+use Rattle.gather.specs.OneLaws.{no-epoch, no-roster, no-room, opened}
 use borrow.Author.Needs.{needs}
 use Rattle.gather.proofs.opening.open.Statement.{statement}
 use Rattle.gather.proofs.opening.open.Tie as tie

@@ -7,7 +7,7 @@ use borrow.Author.Needs.{needs}
 use lib.ListN.{length}
 use Rattle.rules.specs.Register.{registerIn}
 use Rattle.laws.specs.RegisterLaws.{soundRegister→, register-sound}
-use Rattle.forms.specs.RegisterForm.{rowAt}
+use Rattle.registers.specs.RegisterForm.{rowAt}
 use Rattle.reads.proofs.RowLaws.{beyond, there, absent}
 use Rattle.reads.proofs.find.find.Statement.{statement}
 use Rattle.reads.proofs.find.find.Tie as tie

@@ -1,7 +1,7 @@
 -- The head line, the sets, the rows, each where the one before it ended.
 use native.Mathlib.Omega.{arith}
 use denote.Ref.{now}
-use Rattle.forms.proofs.SheetPlaces.{few-sets}
+use Rattle.sheets.specs.SheetPlaces.{few-sets}
 use Rattle.report.specs.Report.{report}
 use Rattle.report.proofs.PutLaws.{then-put}
 use Rattle.report.proofs.LineLaws.{head-put, few-rows}

@@ -1,7 +1,7 @@
 -- `Mark::precedes` answers what `precedes` says.
 use mathlib.Core.Path.{sym}
 use native.Mathlib.Omega.{arith}
-use Rattle.rules.proofs.Cases.{by-cen, by-sen, by-csn}
+use Rattle.rules.specs.Cases.{by-cen, by-sen, by-csn}
 use Rattle.rules.proofs.mark.Mark.precedes.Statement.{statement}
 use Rattle.rules.proofs.mark.Mark.precedes.Tie as tie
 

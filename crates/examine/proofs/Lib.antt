@@ -1,0 +1,4 @@
+pub mod RecordsBy
+pub mod SetsBy
+pub mod SheetBy
+pub mod SheetTests

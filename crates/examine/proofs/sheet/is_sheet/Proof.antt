@@ -1,0 +1,67 @@
+-- `is_sheet` answers what a sheet is.
+use mathlib.Core.Path.{refl}
+use native.Mathlib.Omega.{arith}
+use denote.Ref.{now}
+use borrow.Author.Tests.{not-false}
+use Rattle.laws.specs.Says.{yes-of, no-of, said-no, said-yes, clash}
+use Rattle.examine.proofs.SheetTests.{sheet-says}
+use borrow.Author.Needs.{needs}
+use Rattle.examine.proofs.sheet.is_sheet.Statement.{statement}
+use Rattle.examine.proofs.sheet.is_sheet.Tie as tie
+
+returns : tie.Need-returns
+returns c = no-of (sheet-says (now (c .before .before .args .b)) (c .before .shared-slice-known .given)) (λ r. omega arith)
+
+head-ok-requires : tie.Need-head-ok-requires
+head-ok-requires c κs = search needs
+
+returns-2 : tie.Need-returns-2
+returns-2 c = no-of (sheet-says (now (c .before .before .before .before .args .b)) (c .before .before .before .shared-slice-known .given)) (λ r. clash (r .1 .0) (search said-no))
+
+shared-slice-read-n : tie.Need-shared-slice-read-n
+shared-slice-read-n c = search needs
+
+cast-n : tie.Need-cast-n
+cast-n c = omega (arith, c .shared-slice-known2 .given 7)
+
+mul-if3 : tie.Need-mul-if3
+mul-if3 c = omega (arith, c .shared-slice-known2 .given 7)
+
+add-if3 : tie.Need-add-if3
+add-if3 c = omega (arith, c .shared-slice-known2 .given 7)
+
+returns-3 : tie.Need-returns-3
+returns-3 c = no-of (sheet-says (now (c .before .before .before .before .before .before .args .b)) (c .before .before .before .before .before .shared-slice-known .given)) (λ r. omega arith)
+
+sets-ok-requires : tie.Need-sets-ok-requires
+sets-ok-requires c κs = (omega arith, omega (arith, c .before .before .before .before .before .before .shared-slice-known .given 7), refl)
+
+returns-4 : tie.Need-returns-4
+returns-4 c = no-of (sheet-says (now (c .before .before .before .before .before .before .before .before .before .args .b)) (c .before .before .before .before .before .before .before .before .shared-slice-known .given)) (λ r. clash (r .1 .1 .1 .0) (said-no (c .before .sets-ok .ensures .0) (c .if4 .taken)))
+
+notices-ok-requires : tie.Need-notices-ok-requires
+notices-ok-requires c κs = (omega arith, c .before .before .sets-ok .ensures .1 (not-false _ (c .before .if4 .left)))
+
+returns-5 : tie.Need-returns-5
+returns-5 c = no-of (sheet-says (now (c .before .before .before .before .before .before .before .before .before .before .before .before .args .b)) (c .before .before .before .before .before .before .before .before .before .before .before .shared-slice-known .given)) (λ r. clash (r .1 .1 .1 .1) (search said-no))
+
+returns-6 : tie.Need-returns-6
+returns-6 c = yes-of (sheet-says (now (c .before .before .before .before .before .before .before .before .before .before .before .before .args .b)) (c .before .before .before .before .before .before .before .before .before .before .before .shared-slice-known .given)) (omega arith, (search said-yes, (omega arith, (said-yes (c .before .before .before .before .sets-ok .ensures .0) (c .before .before .before .if4 .left), search said-yes))))
+
+pub is-sheet-spec : {M : Type 1} → statement M
+is-sheet-spec =
+    tie.close
+    (tie.spec
+    returns
+    head-ok-requires
+    returns-2
+    shared-slice-read-n
+    cast-n
+    mul-if3
+    add-if3
+    returns-3
+    sets-ok-requires
+    returns-4
+    notices-ok-requires
+    returns-5
+    returns-6)

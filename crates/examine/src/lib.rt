@@ -1,0 +1,10 @@
+// Whether bytes are a sheet, and whether they are the records of a set that can be offered: every rule of document 01's form, tested.
+mod contents;
+mod head;
+mod records;
+mod sheet;
+
+pub use head::in_roster;
+pub use records::are_records;
+pub use records::offered_count;
+pub use sheet::is_sheet;

@@ -1,0 +1,4 @@
+pub mod CompleteLaws
+pub mod Firsts
+pub mod InsertLaws
+pub mod WinnerLaws

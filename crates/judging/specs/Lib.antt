@@ -1,0 +1,3 @@
+pub mod AppliedLaws
+pub mod FitLaws
+pub mod Judged

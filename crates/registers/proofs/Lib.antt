@@ -1,0 +1,2 @@
+pub mod RegisterBy
+pub mod RegisterWritten

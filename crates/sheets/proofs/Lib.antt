@@ -1,0 +1,2 @@
+pub mod NextOf
+pub mod StreamLaws

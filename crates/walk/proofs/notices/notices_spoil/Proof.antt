@@ -1,0 +1,67 @@
+-- No master that is passed has two different notices, or more sets than its notice.
+use Rattle.walk.proofs.Masters.{found, none-found}
+use Rattle.walk.specs.Walk.{noticeSpoils}
+use Rattle.laws.specs.Tests.{or-left, or-right}
+use Rattle.rules.specs.Lists.{_or_}
+use Rattle.rules.specs.Sheet.{sheetIn}
+use borrow.Author.Count.{below-more}
+use mathlib.Core.Bool.{false}
+use Prim.Native.Nat.{ℕ, _≤_, _<_, _-_}
+use mathlib.Core.Path.{_≡_, sym, _∙_}
+use native.Mathlib.Omega.{arith}
+use Rattle.walk.proofs.notices.notices_spoil.Statement.{statement}
+use Rattle.walk.proofs.notices.notices_spoil.Tie as tie
+
+abbrev Inv-loop : tie.InvT-loop
+Inv-loop a b m₀ m = (m ≤ 16) × ((k : ℕ) → k < m → noticeSpoils (sheetIn a) (sheetIn b) k ≡ false)
+
+abbrev μ-loop : tie.MeasureT-loop
+μ-loop a b m₀ m = 16 - m
+
+loop-holds : tie.Need-loop-holds Inv-loop μ-loop
+loop-holds c = (omega arith, λ k l. absurd (omega arith))
+
+differ-at-requires : tie.Need-differ-at-requires Inv-loop μ-loop
+differ-at-requires c κs = (c .before .before .before .before .pre, omega arith)
+
+returns : tie.Need-returns Inv-loop μ-loop
+unfolding noticeSpoils
+returns c = found _ (c .before .before .before .loop .m) (omega arith) (or-left _ _ (sym (c .before .differ-at .ensures) ∙ c .if1 .taken))
+
+over-at-requires : tie.Need-over-at-requires Inv-loop μ-loop
+over-at-requires c κs = (c .before .before .before .before .before .before .pre, omega arith)
+
+returns-2 : tie.Need-returns-2 Inv-loop μ-loop
+unfolding noticeSpoils
+returns-2 c =
+    found _ (c .before .before .before .before .before .loop .m) (omega arith) (or-right _ _ (sym (c .before .over-at .ensures) ∙ c .if2 .taken))
+
+add-m : tie.Need-add-m Inv-loop μ-loop
+add-m c = omega arith
+
+loop-less : tie.Need-loop-less Inv-loop μ-loop
+loop-less c = omega arith
+
+loop-again : tie.Need-loop-again Inv-loop μ-loop
+unfolding noticeSpoils _or_
+loop-again c =
+    (omega arith, below-more _ _ (c .before .before .before .before .before .loop .inv .1) (rw (sym (c .before .before .before .differ-at .ensures) ∙ c .before .before .if1 .left, sym (c .before .over-at .ensures) ∙ c .if2 .left)))
+
+returns-3 : tie.Need-returns-3 Inv-loop μ-loop
+returns-3 c = none-found _ (c .before .loop .m) (omega arith) (c .before .loop .inv .1)
+
+pub notices-spoil-spec : {M : Type 1} → statement M
+notices-spoil-spec =
+    tie.close
+    (tie.spec
+    Inv-loop
+    μ-loop
+    loop-holds
+    differ-at-requires
+    returns
+    over-at-requires
+    returns-2
+    add-m
+    loop-less
+    loop-again
+    returns-3)

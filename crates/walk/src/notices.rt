@@ -1,0 +1,67 @@
+// The notices of two sheets together: what each master noticed, and whether one has two different notices or more sets than it noticed.
+use crate::counts::sets_of;
+use forms::notice;
+use rules::NO_NOTICE;
+ghost use mathlib.Core.Path.{_≡_};
+ghost use Prim.Native.Nat.{_<_};
+ghost use Rattle.rules.specs.Lists.{any};
+ghost use Rattle.rules.specs.Sheet.{sheetIn, masters};
+ghost use Rattle.laws.specs.Joining.{noticeTogether, noticesDiffer, overAt};
+ghost use Rattle.walk.specs.Walk.{noticeSpoils, Both};
+
+// The smaller one: no notice is the largest byte.
+pub fn notice_together(a: &[u8], b: &[u8], m: usize) -> u8
+    requires { ⌜ (Both (now a) (now b)) × (m < 16) ⌝ }
+    ensures { λ r. ⌜ r ≡ noticeTogether (sheetIn (now (a .entry))) (sheetIn (now (b .entry))) m ⌝ }
+{
+    let x = notice(a, m);
+    let y = notice(b, m);
+    if x < y {
+        return x;
+    }
+    y
+}
+
+fn differ_at(a: &[u8], b: &[u8], m: usize) -> bool
+    requires { ⌜ (Both (now a) (now b)) × (m < 16) ⌝ }
+    ensures { λ r. ⌜ r ≡ noticesDiffer (sheetIn (now (a .entry))) (sheetIn (now (b .entry))) m ⌝ }
+{
+    let x = notice(a, m);
+    let y = notice(b, m);
+    if x == NO_NOTICE {
+        return false;
+    }
+    if y == NO_NOTICE {
+        return false;
+    }
+    x != y
+}
+
+fn over_at(a: &[u8], b: &[u8], m: usize) -> bool
+    requires { ⌜ (Both (now a) (now b)) × (m < 16) ⌝ }
+    ensures { λ r. ⌜ r ≡ overAt (sheetIn (now (a .entry))) (sheetIn (now (b .entry))) m ⌝ }
+{
+    let x = notice_together(a, b, m);
+    if x == NO_NOTICE {
+        return false;
+    }
+    (x as usize) < sets_of(a, b, m)
+}
+
+// One walk over the masters for both reasons.
+pub fn notices_spoil(a: &[u8], b: &[u8]) -> bool
+    requires { ⌜ Both (now a) (now b) ⌝ }
+    ensures { λ r. ⌜ r ≡ any (noticeSpoils (sheetIn (now (a .entry))) (sheetIn (now (b .entry)))) masters ⌝ }
+{
+    let mut m: usize = 0;
+    while m < 16 {
+        if differ_at(a, b, m) {
+            return true;
+        }
+        if over_at(a, b, m) {
+            return true;
+        }
+        m += 1;
+    }
+    false
+}
