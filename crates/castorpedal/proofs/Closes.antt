@@ -9,14 +9,14 @@ use Rattle.rules.specs.declared.answer.Closed.{Closed}
 use Rattle.rules.specs.declared.answer.Closed.the-variants.{Wrote, Refused}
 use Rattle.rules.specs.Answers.{closedNumbers, refusalNumber}
 use Rattle.rules.specs.Register.{Register, maxRows}
-use Rattle.rules.specs.Sheet.{Sheet}
+use Rattle.rules.specs.Sheet.{Sheet, maxSets}
 use Rattle.rules.specs.Closing.{nextRows, next}
 use Rattle.rules.specs.Refused.{Outcome, refused, done, Closing, registerRoom, verdictRoom, closing, closeOutcome}
 use Rattle.rules.specs.Promises.{toldClosing, ClosePromise}
-use Rattle.laws.specs.RegisterLaws.{register-length}
 use Rattle.laws.specs.SheetLaws.{soundSheet→, written-read}
 use Rattle.laws.specs.Closers.{closes→}
 use Rattle.laws.specs.VerdictLength.{verdicts-long}
+use Rattle.registers.specs.RegisterWritten.{length-fits, register-long}
 use Rattle.castorpedal.specs.declared.answer.CClosed.{CClosed}
 use Rattle.castorpedal.specs.Exported.{WithinClosed, ToldClosed, KeptClose}
 
@@ -26,9 +26,9 @@ use Rattle.castorpedal.specs.Exported.{WithinClosed, ToldClosed, KeptClo
 abbrev pub Small : Closing → Type 0
 Small c = (length c.register ≤ registerRoom) × (length c.verdicts ≤ verdictRoom)
 
-small : (g : Register) (s : Sheet) → length (nextRows g s) ≤ maxRows → length s.sets ≤ 64 → Small (closing g s)
+small : (g : Register) (s : Sheet) → length (nextRows g s) ≤ maxRows → length s.sets ≤ maxSets → Small (closing g s)
 unfolding closing next
-small g s h k = (omega (arith, register-length (next g s)), omega (arith, verdicts-long g s))
+small g s h k = (omega (arith, register-long (next g s), length-fits (length (nextRows g s)) h), omega (arith, verdicts-long g s))
 
 pub close-fits : (register sheet : Bytes) (nextRoom room : ℕ) (c : Closing) → closeOutcome register sheet nextRoom room ≡ done c → Small c
 close-fits register sheet nextRoom room c p =

@@ -24,12 +24,11 @@ use Rattle.laws.specs.GatherSound.{FairOffer, head-of}
 use Rattle.laws.specs.Joining.{joined-sound}
 use Rattle.laws.specs.OneOffer.{one-sound, put-joins}
 use Rattle.laws.specs.NotRefused.{refused-not, open→, offer→, set→, notice→, join-sound}
-use Rattle.sheets.specs.SheetPlaces.{sheet-length, total-few}
-use Rattle.gather.specs.OneLaws.{empty-length}
+use Rattle.sheets.specs.SheetSizes.{sheet-length, total-few, empty-length}
 use Rattle.castorpedal.specs.declared.answer.CAnswer.{CAnswer}
 use Rattle.castorpedal.specs.Exported.{Within, Told, Kept}
 
--- ---- a sound sheet has at most 9,240 bytes
+-- ---- a sound sheet has no more bytes than its room
 
 pub sheet-room : (s : Sheet) → soundSheet s ≡ true → length (sheetBytes s) ≤ sheetRoom
 sheet-room s e =
@@ -89,7 +88,7 @@ join-fits a b room c p =
 
 -- ---- how an export keeps its promise
 
-pub within : (o : Outcome Bytes) (a : Answer) → answerNumbers a ≡ told o → Fits o → Within 9240 a
+pub within : (o : Outcome Bytes) (a : Answer) → answerNumbers a ≡ told o → Fits o → Within sheetRoom a
 unfolding told
 within (refused n) (Wrote k) p f = let q = ap (λ (x : ℕ × ℕ). x .1) p in omega arith
 within (done b) (Wrote k) p f = let q = ap (λ (x : ℕ × ℕ). x .1) p in omega (arith, f b refl)
@@ -100,7 +99,7 @@ kept o before p t = record { answered = t .numbers ∙ p .answered; buffer = p .
 
 -- ---- an answer's cases
 
-pub wrote-within : {a : Answer} {n : ℕ} → Within 9240 a → a ≡ Wrote n → n ≤ 9240
+pub wrote-within : {a : Answer} {n : ℕ} → Within sheetRoom a → a ≡ Wrote n → n ≤ sheetRoom
 wrote-within w p = rw p at w
 
 pub wrote-told : {a : Answer} {n : ℕ} → a ≡ Wrote n → Told a (record { code = 0; len = n })

@@ -9,12 +9,15 @@ use Rattle.castorpedal.specs.declared.answer.CClosed.{CClosed}
 use Rattle.castorpedal.specs.declared.answer.CChecked.{CChecked}
 use Rattle.castorpedal.specs.Exported.{Kept, KeptClose, KeptCheck}
 
+-- the struct of an answer's numbers
 abbrev answerOf : ℕ × ℕ → CAnswer
 answerOf x = record { code = x .0; len = x .1 }
 
+-- the struct of a closing's numbers
 abbrev closedOf : ℕ × ℕ × ℕ → CClosed
 closedOf x = record { code = x .0; «register_len» = x .1; «verdicts_len» = x .2 }
 
+-- the struct of a read check's numbers
 abbrev checkedOf : ℕ × ℕ × ℕ × ℕ → CChecked
 checkedOf x = record { code = x .0; index = x .1; key = x .2; reason = x .3 }
 

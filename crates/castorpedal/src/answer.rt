@@ -2,6 +2,7 @@
 use rules::Answer;
 use rules::Checked;
 use rules::Closed;
+ghost use Rattle.rules.specs.Refused.{sheetRoom};
 ghost use Rattle.castorpedal.specs.Exported.{Told, Within, ToldClosed, WithinClosed, ToldChecked};
 
 // A code (0: done, else the refusal's number) and the length written.
@@ -29,7 +30,7 @@ pub struct CChecked {
 }
 
 pub fn answer(a: Answer) -> CAnswer
-    requires { ⌜ Within 9240 a ⌝ }
+    requires { ⌜ Within sheetRoom a ⌝ }
     ensures { λ r. ⌜ Told a r ⌝ }
 {
     match a {

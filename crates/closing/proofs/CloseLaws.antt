@@ -1,37 +1,34 @@
 -- Each refusal of closing, and what is promised where nothing refuses.
-use Prim.Native.Nat.{ℕ, _+_, _*_, _≤_, _<_}
-use mathlib.Core.Path.{_≡_, refl, sym, _∙_}
+use Prim.Native.Nat.{ℕ, _+_, _≤_, _<_}
+use mathlib.Core.Path.{_≡_, sym, _∙_, ap}
 use mathlib.Core.Bool.{true, false}
-use mathlib.Core.List.{_++_}
-use mathlib.Core.Option.{none, some}
+use mathlib.Core.List.{[]}
+use mathlib.Core.Option.{some}
 use native.Mathlib.Omega.{arith}
 use borrow.Author.Tests.{lt-ltb, le-ltb}
-use lib.ListN.{length, length-append}
+use lib.ListN.{length}
 use lib.Dec.{eqb}
-use Rattle.words.specs.Words.{Bytes, le, stored}
-use Rattle.words.specs.WordLaws.{le-length, then-stored, stored-front}
+use Rattle.words.specs.Words.{Bytes}
 use Rattle.rules.specs.declared.answer.Closed.{Closed}
 use Rattle.rules.specs.declared.answer.Closed.the-variants as closed
 use Rattle.rules.specs.Lists.{_or_, flat}
-use Rattle.rules.specs.Forms.{read}
-use Rattle.rules.specs.Register.{Register, maxRows, rowBytes, registerBytes, isRegister, registerIn, readRegister}
+use Rattle.rules.specs.Register.{Register, maxRows, isRegister, registerIn}
 use Rattle.rules.specs.Sheet.{Sheet, isSheet, sheetIn}
 use Rattle.rules.specs.Closing.{complete, nextRows, next, verdicts}
 use Rattle.rules.specs.Refused.{Outcome, refused, done, Closing, closing, registerRoom, verdictRoom, verdictBytes, closeSheet, closeOutcome}
 use Rattle.rules.specs.Promises.{over, toldClosing, leftRegister, leftVerdicts, ClosePromise}
-use Rattle.laws.specs.RegisterLaws.{register-read, register-length}
+use Rattle.laws.specs.RegisterLaws.{register-read, register-unread}
 use Rattle.laws.specs.SheetLaws.{sheet-read, sheet-unread}
-use Rattle.registers.specs.RegisterForm.{placeOf, registerHead}
-use Rattle.judging.specs.Judged.{closeComplete}
 use Rattle.laws.specs.VerdictLength.{verdicts-long}
+use Rattle.forms.specs.VerdictForm.{verdictsLength}
+use Rattle.registers.specs.declared.writing.Draft.{Draft}
+use Rattle.registers.specs.RegisterWriting.{registerLength, RowsPut, RowsFit, RowsAdded}
+use Rattle.registers.specs.RegisterWritten.{length-fits, register-long, finished}
+use Rattle.closing.specs.Outcome.{closeComplete, NextStands}
 
 -- the same of an equal outcome
 pub alike : {o p : Outcome Closing} {a b : Bytes} {r : Closed} {a′ b′ : Bytes} → o ≡ p → ClosePromise p a b r a′ b′ → ClosePromise o a b r a′ b′
 alike e h = rw e h
-
-register-unread : (b : Bytes) → isRegister b ≡ false → readRegister b ≡ none
-unfolding isRegister readRegister read
-register-unread b e = rw e
 
 -- ---- bad form comes first
 
@@ -88,27 +85,36 @@ module _ (g : Register) (s : Sheet) (n m : ℕ) where
 
 -- ---- what is written
 
--- a head, and rows behind it, are a register
-pub head-and-rows : (g : Register) (l₀ : Bytes) {l₁ l₂ : Bytes} (snap n : ℕ) → snap ≡ g.snapshot → n ≡ length g.rows → l₁ ≡ stored l₀ 0 (registerHead snap n)
-    → l₂ ≡ stored l₁ 8 (flat rowBytes g.rows) → l₂ ≡ stored l₀ 0 (registerBytes g)
-unfolding registerHead registerBytes
-head-and-rows g l₀ snap n e f p q =
-    then-stored l₀ 0 8 (le 4 snap ++ le 4 n) (flat rowBytes g.rows) p q (simp (length-append, le-length))
-    ∙ rw (e, f) refl
+module _ (g : Register) (s : Sheet) (few : length (nextRows g s) ≤ maxRows) where
+  -- the draft that was begun has room for the next rows
+  pub next-fits : {before mid : Bytes} {d : Draft} (snap : ℕ) → registerRoom ≤ length before → d.rows ≡ length (nextRows g s) → RowsPut snap [] before d mid
+      → RowsFit d (length (nextRows g s)) mid
+  next-fits {d = d} snap room n p =
+      record {
+        few = rw n few;
+        room = rw (n, p .long) (omega (arith, length-fits (length (nextRows g s)) few));
+        left = omega (arith, n, p .put);
+      }
 
-module _ (g : Register) (s : Sheet) (few : length (nextRows g s) ≤ maxRows) (sets : length s.sets ≤ 64) where
-  register-long : length (registerBytes (next g s)) ≡ placeOf (length (nextRows g s))
+  -- once its rows are put the next register stands, and it is as long as its draft says
+  pub next-stands : {before mid after : Bytes} {d e : Draft} (snap : ℕ) → snap ≡ g.snapshot + 1 → registerRoom ≤ length before → d.rows ≡ length (nextRows g s)
+      → RowsPut snap [] before d mid → RowsAdded (nextRows g s) d mid e after → {r : ℕ} → r ≡ registerLength e.rows → NextStands g s before r after
   unfolding next
-  register-long = register-length (next g s)
+  next-stands {before} {e = e} snap epoch room n p q {r} long =
+      let rows : e.rows ≡ length (nextRows g s) = q .same ∙ n in
+      let wide : registerLength e.rows ≤ length before = rw rows (omega (arith, length-fits (length (nextRows g s)) few)) in
+      record {
+        bytes = finished (next g s) rows wide (rw epoch at (q .behind snap [] before p));
+        long = long ∙ ap registerLength rows ∙ sym (register-long (next g s));
+      }
 
-  pub closes : (a b : Bytes) {a′ b′ : Bytes} (n m : ℕ) → registerRoom ≤ length a → verdictRoom ≤ length b → n ≡ placeOf (length (nextRows g s)) → m ≡ 5 * length s.sets
-      → a′ ≡ stored a 0 (registerBytes (next g s)) → b′ ≡ stored b 0 (flat verdictBytes (verdicts g s))
-      → ClosePromise (closeComplete g s (length a) (length b)) a b (closed.Wrote n m) a′ b′
-  unfolding toldClosing leftRegister leftVerdicts over closing
-  closes a b n m h k e f p q =
+  pub closes : (a b : Bytes) {a′ b′ : Bytes} (n m : ℕ) → registerRoom ≤ length a → verdictRoom ≤ length b → NextStands g s a n a′ → m ≡ verdictsLength (length s.sets)
+      → b′ ≡ over b (flat verdictBytes (verdicts g s)) → ClosePromise (closeComplete g s (length a) (length b)) a b (closed.Wrote n m) a′ b′
+  unfolding toldClosing leftRegister leftVerdicts closing
+  closes a b n m h k p f q =
       alike (complete-done g s (length a) (length b) few h k)
       (record {
-        answered = λ i. (0, (e ∙ sym register-long) i, (f ∙ sym (verdicts-long g s)) i);
-        next = p ∙ stored-front a (registerBytes (next g s)) (omega (arith, register-long));
-        verdicts = q ∙ stored-front b (flat verdictBytes (verdicts g s)) (omega (arith, verdicts-long g s));
+        answered = λ i. (0, p .long i, (f ∙ sym (verdicts-long g s)) i);
+        next = p .bytes;
+        verdicts = q;
       })

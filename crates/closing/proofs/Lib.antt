@@ -1,5 +1,2 @@
-pub mod VerdictLaws
-pub mod RowLaws
-pub mod NextWritten
-pub mod RowsWritten
 pub mod CloseLaws
+pub mod VerdictLaws

@@ -1,19 +1,19 @@
 // Closing: the refusals in document 01's order, then the verdicts and the count of the next rows, and only then the writing.
-use crate::rows::next_count;
-use crate::rows::put_rows;
 use crate::verdicts::put_verdicts;
 use forms::epoch;
+use forms::finish_register;
 use forms::is_register;
 use forms::is_sheet;
 use forms::is_spoiled;
-use forms::length_of;
-use forms::put_register_head;
 use forms::set_count;
 use forms::snapshot;
+use forms::start_register;
 use forms::verdicts_length;
 use judging::complete;
 use judging::find_lost;
 use judging::find_wrong;
+use next_rows::next_count;
+use next_rows::put_rows;
 use rules::Closed;
 use rules::MAX_ROWS;
 use rules::MAX_SETS;
@@ -26,13 +26,13 @@ ghost use mathlib.Core.Option.{some};
 ghost use Prim.Native.Nat.{_+_, _≤_};
 ghost use lib.ListN.{length};
 ghost use lib.Dec.{eqb};
-ghost use Rattle.words.specs.Words.{stored};
-ghost use Rattle.rules.specs.Register.{isRegister, registerIn, registerBytes};
-ghost use Rattle.rules.specs.Sheet.{isSheet, sheetIn};
-ghost use Rattle.rules.specs.Closing.{nextRows, next};
-ghost use Rattle.rules.specs.Refused.{closeSheet, closeOutcome};
+ghost use Rattle.rules.specs.Register.{maxRows, isRegister, registerIn};
+ghost use Rattle.rules.specs.Sheet.{maxSets, isSheet, sheetIn};
+ghost use Rattle.rules.specs.Closing.{nextRows};
+ghost use Rattle.rules.specs.Refused.{registerRoom, verdictRoom, closeSheet, closeOutcome};
 ghost use Rattle.rules.specs.Promises.{ClosePromise};
-ghost use Rattle.judging.specs.Judged.{Judged, closeComplete};
+ghost use Rattle.judging.specs.Judged.{Judged};
+ghost use Rattle.closing.specs.Outcome.{closeComplete, NextStands};
 
 // Whether the sheet is of the epoch after the register's snapshot, over whole numbers: none follows the last.
 fn follows(register: &[u8], sheet: &[u8]) -> bool
@@ -42,18 +42,25 @@ fn follows(register: &[u8], sheet: &[u8]) -> bool
     epoch(sheet) as u64 == snapshot(register) as u64 + 1
 }
 
-// The next register, of n rows.
-fn put_next(register: &[u8], sheet: &[u8], wrong: &[u32], lost: &[u32], n: usize, out: &mut [u8])
-    requires { ⌜ (Judged (now register) (now sheet) (now wrong) (now lost)) × (sheetIn (now sheet) .epoch ≡ registerIn (now register) .snapshot + 1) × (n ≡ length (nextRows (registerIn (now register)) (sheetIn (now sheet)))) × (n ≤ 1024) × (28680 ≤ length (now out)) ⌝ }
-    ensures { λ _. ⌜ now (out .exit) ≡ stored (now (out .entry)) 0 (registerBytes (next (registerIn (now (register .entry))) (sheetIn (now (sheet .entry))))) ⌝ }
+// The next register, of n rows, and its length.
+fn put_next(
+    register: &[u8],
+    sheet: &[u8],
+    wrong: &[u32],
+    lost: &[u32],
+    n: usize,
+    out: &mut [u8],
+) -> usize
+    requires { ⌜ (Judged (now register) (now sheet) (now wrong) (now lost)) × (sheetIn (now sheet) .epoch ≡ registerIn (now register) .snapshot + 1) × (n ≡ length (nextRows (registerIn (now register)) (sheetIn (now sheet)))) × (n ≤ maxRows) × (registerRoom ≤ length (now out)) ⌝ }
+    ensures { λ r. ⌜ NextStands (registerIn (now (register .entry))) (sheetIn (now (sheet .entry))) (now (out .entry)) r (now (out .exit)) ⌝ }
 {
-    put_register_head(out, epoch(sheet), n);
-    put_rows(register, sheet, wrong, lost, out);
+    let begun = start_register(out, epoch(sheet), n);
+    finish_register(put_rows(register, sheet, wrong, lost, out, begun))
 }
 
 // Both tables: who is found wrong, and who loses what.
 fn judge(register: &[u8], sheet: &[u8], wrong: &mut [u32], lost: &mut [u32])
-    requires { ⌜ (isRegister (now register) ≡ true) × (isSheet (now sheet) ≡ true) × (length (now wrong) ≡ 64) × (length (now lost) ≡ 64) ⌝ }
+    requires { ⌜ (isRegister (now register) ≡ true) × (isSheet (now sheet) ≡ true) × (length (now wrong) ≡ maxSets) × (length (now lost) ≡ maxSets) ⌝ }
     ensures { λ _. ⌜ Judged (now (register .entry)) (now (sheet .entry)) (now (wrong .exit)) (now (lost .exit)) ⌝ }
 {
     find_wrong(register, sheet, wrong);
@@ -70,13 +77,13 @@ fn write(
     next: &mut [u8],
     verdicts: &mut [u8],
 ) -> Closed
-    requires { ⌜ (Judged (now register) (now sheet) (now wrong) (now lost)) × (sheetIn (now sheet) .epoch ≡ registerIn (now register) .snapshot + 1) × (n ≡ length (nextRows (registerIn (now register)) (sheetIn (now sheet)))) × (n ≤ 1024) × (28680 ≤ length (now next)) × (320 ≤ length (now verdicts)) ⌝ }
+    requires { ⌜ (Judged (now register) (now sheet) (now wrong) (now lost)) × (sheetIn (now sheet) .epoch ≡ registerIn (now register) .snapshot + 1) × (n ≡ length (nextRows (registerIn (now register)) (sheetIn (now sheet)))) × (n ≤ maxRows) × (registerRoom ≤ length (now next)) × (verdictRoom ≤ length (now verdicts)) ⌝ }
     ensures { λ r. ⌜ ClosePromise (closeComplete (registerIn (now (register .entry))) (sheetIn (now (sheet .entry))) (length (now (next .entry))) (length (now (verdicts .entry)))) (now (next .entry)) (now (verdicts .entry)) r (now (next .exit)) (now (verdicts .exit)) ⌝ }
 {
-    put_next(register, sheet, wrong, lost, n, next);
+    let length = put_next(register, sheet, wrong, lost, n, next);
     put_verdicts(sheet, wrong, lost, verdicts);
     Closed::Wrote {
-        register: length_of(n),
+        register: length,
         verdicts: verdicts_length(set_count(sheet)),
     }
 }

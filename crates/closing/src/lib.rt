@@ -1,6 +1,5 @@
 // Closing an epoch, over the forms' promises alone.
 mod epoch;
-mod rows;
 mod verdicts;
 
 pub use epoch::close;

@@ -1,40 +1,43 @@
 // The verdicts, from the two tables.
 use forms::put_verdict;
 use forms::set_count;
+use judging::FirstKey;
+use judging::key_at;
 use rules::Verdict;
 ghost use mathlib.Core.Path.{_≡_};
 ghost use mathlib.Core.Bool.{true};
 ghost use Prim.Native.Nat.{_≤_};
 ghost use lib.ListN.{length};
-ghost use Rattle.words.specs.Words.{stored};
 ghost use Rattle.rules.specs.Lists.{flat};
 ghost use Rattle.rules.specs.Register.{Register};
-ghost use Rattle.rules.specs.Sheet.{isSheet, sheetIn};
+ghost use Rattle.rules.specs.Sheet.{maxSets, isSheet, sheetIn};
 ghost use Rattle.rules.specs.Closing.{verdicts};
-ghost use Rattle.rules.specs.Refused.{verdictBytes};
-ghost use Rattle.judging.specs.Judged.{wrongKey, lostKey, Tells, verdictBy};
+ghost use Rattle.rules.specs.Refused.{verdictRoom, verdictBytes};
+ghost use Rattle.rules.specs.Promises.{over};
+ghost use Rattle.judging.specs.Tables.{wrongKey, lostKey, Tells};
+ghost use Rattle.closing.specs.Outcome.{verdictBy};
 
-// The verdict of a set whose first key found wrong and first key lost are these.
-fn verdict_of(wrong: u32, lost: u32) -> Verdict
+// The verdict on a set whose first key found wrong and first key lost are these.
+fn verdict_of(wrong: FirstKey, lost: FirstKey) -> Verdict
     ensures { λ r. ⌜ r ≡ verdictBy wrong lost ⌝ }
 {
-    if wrong != 0 {
-        return Verdict::Unfit(wrong);
+    if let FirstKey::Key(key) = wrong {
+        return Verdict::Unfit(key);
     }
-    if lost != 0 {
-        return Verdict::Lost(lost);
+    if let FirstKey::Key(key) = lost {
+        return Verdict::Lost(key);
     }
     Verdict::Commit
 }
 
 pub fn put_verdicts(sheet: &[u8], wrong: &[u32], lost: &[u32], out: &mut [u8])
-    requires { ⌜ (isSheet (now sheet) ≡ true) × (length (now wrong) ≡ 64) × (length (now lost) ≡ 64) × (320 ≤ length (now out)) ⌝ }
-    ensures { λ _. ⌜ ((g : Register) → Tells (wrongKey g) (sheetIn (now (sheet .entry))) (now (wrong .entry)) → Tells (lostKey g (sheetIn (now (sheet .entry)))) (sheetIn (now (sheet .entry))) (now (lost .entry)) → now (out .exit) ≡ stored (now (out .entry)) 0 (flat verdictBytes (verdicts g (sheetIn (now (sheet .entry)))))) ⌝ }
+    requires { ⌜ (isSheet (now sheet) ≡ true) × (length (now wrong) ≡ maxSets) × (length (now lost) ≡ maxSets) × (verdictRoom ≤ length (now out)) ⌝ }
+    ensures { λ _. ⌜ ((g : Register) → Tells (wrongKey g) (sheetIn (now (sheet .entry))) (now (wrong .entry)) → Tells (lostKey g (sheetIn (now (sheet .entry)))) (sheetIn (now (sheet .entry))) (now (lost .entry)) → now (out .exit) ≡ over (now (out .entry)) (flat verdictBytes (verdicts g (sheetIn (now (sheet .entry)))))) ⌝ }
 {
     let n = set_count(sheet);
     let mut i: usize = 0;
     while i < n {
-        put_verdict(out, i, verdict_of(wrong[i], lost[i]));
+        put_verdict(out, i, verdict_of(key_at(wrong, i), key_at(lost, i)));
         i += 1;
     }
 }

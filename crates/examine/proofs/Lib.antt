@@ -1,3 +1,4 @@
+pub mod Loops
 pub mod RecordsBy
 pub mod SetsBy
 pub mod SheetBy

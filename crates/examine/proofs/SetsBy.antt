@@ -11,7 +11,7 @@ use Rattle.words.specs.Words.{Bytes, le, word}
 use Rattle.words.specs.WordLaws.{word-fits}
 use Rattle.rules.specs.Lists.{_and_, _or_, if_then_else_, all, keep, count, flat, ascendFrom, ascend, same}
 use Rattle.rules.specs.Numbers.{masterOf}
-use Rattle.rules.specs.Sheet.{WriteSet, csnOf, setsOf, soundRecords, soundSet, recordsBytes, recordsIn, contentsFrom, bodies, setsIn}
+use Rattle.rules.specs.Sheet.{csnOf, setsOf, soundRecords, soundSet, recordsBytes, recordsIn, contentsFrom, bodies, setsIn}
 use Rattle.laws.specs.Tests.{left, right, both}
 use Rattle.laws.specs.FormLaws.{→fits}
 use Rattle.laws.specs.SheetLaws.{records-length, records-count}
@@ -56,11 +56,6 @@ unfolding ordered ascend ascendFrom above _and_ _or_
 ordered-more zero prev k x csns h = sym (ordered-after (0 + k) x csns (omega arith))
 ordered-more (suc first) prev k x csns h = rw (ne-eqb (suc first) 0 (λ e. omega arith), ordered-after (suc first + k) x csns (omega arith))
 
-pub sets-count : (n : ℕ) (b : Bytes) (c at : ℕ) → length (setsIn n b c at) ≡ n
-unfolding setsIn
-sets-count zero b c at = refl
-sets-count (suc n) b c at = ap suc (sets-count n b (c + 16) (at + 16 * countAt b c))
-
 pub csns-of : (n : ℕ) (b : Bytes) (c at : ℕ) → map csnOf (setsIn n b c at) ≡ csnsIn n b c
 unfolding setsIn csnsIn
 csns-of zero b c at = refl
@@ -80,11 +75,6 @@ module _ {A : Type 0} (f : A → ℕ) (p : ℕ → Bool) where
 pub sets-of : (m n : ℕ) (b : Bytes) (c at : ℕ) → setsOf m (setsIn n b c at) ≡ setsBy m (csnsIn n b c)
 unfolding setsOf setsBy
 sets-of m n b c at = count-map csnOf (λ x. eqb (masterOf x) m) (setsIn n b c at) ∙ ap (setsBy m) (csns-of n b c at)
-
-pub contents-length : (first : ℕ) (ws : List WriteSet) → length (contentsFrom first ws) ≡ 16 * length ws
-unfolding contentsFrom le
-contents-length first [] = refl
-contents-length first (w ∷ ws) = omega (arith, contents-length (first + length w.records) ws)
 
 pub bodies-length : (n : ℕ) (b : Bytes) (c at : ℕ) → length (bodies (setsIn n b c at)) ≡ 16 * totalIn n b c
 unfolding bodies flat setsIn totalIn

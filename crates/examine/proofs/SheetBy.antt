@@ -15,9 +15,10 @@ use Rattle.rules.specs.Forms.{wellFormed}
 use Rattle.rules.specs.Sheet.{noNotice, masters, setsOf, soundNotice, bare, soundSheet, contentsFrom, bodies, stateByte, headBytes, sheetBytes, setsIn, sheetIn, isSheet}
 use Rattle.laws.specs.Tests.{left, right, both, same-tests}
 use Rattle.laws.specs.FormLaws.{→fits, same→}
+use Rattle.laws.specs.SheetLaws.{contents-length, sets-count}
 use Rattle.examine.specs.SheetForm.{setCount, noneNoticed, stateOk, headOk, noticeOk, sheetOk}
 use Rattle.laws.specs.BytesHere.{Octets, and-true, part-here, byte-here, itself-here, word-here}
-use Rattle.examine.proofs.SetsBy.{totalIn, firstsIn, setZeros, ordered, sets-count, csns-of, sets-of, contents-length, bodies-length, total-few, contents-here, bodies-here, sets-says}
+use Rattle.examine.proofs.SetsBy.{totalIn, firstsIn, setZeros, ordered, csns-of, sets-of, bodies-length, total-few, contents-here, bodies-here, sets-says}
 
 -- the state byte is written again if it is 0 or 1
 state-here : (s : ℕ) → eqb (stateByte (eqb s 1)) s ≡ leb s 1

@@ -18,12 +18,13 @@ use Rattle.rules.specs.Numbers.{masterOf}
 use Rattle.rules.specs.Sheet.{noNotice, maxSets, maxRecords, masters, inRoster, soundNotice, isSheet}
 use Rattle.laws.specs.Says.{Says, is-lt, is-le, is-eq, itself, retold, _also_, _or-else_, _so_}
 use Rattle.examine.specs.SheetForm.{countAt, entryOk, bodyOk, above, setOk, setsOk, csnsIn, setsBy, Counted, setCount, noneNoticed, stateOk, headOk, noticeOk, sheetOk}
-use Rattle.laws.specs.Loops.{stops, goes}
+use Rattle.examine.proofs.Loops.{stops, goes}
 use Rattle.laws.specs.BytesHere.{octets}
 use Rattle.examine.proofs.SheetBy.{is-sheet-by}
 
 -- ---- the notices
 
+-- a notice byte of a master that sent none
 abbrev Unsent : ℕ → Bool
 Unsent n = eqb n noNotice
 
@@ -66,6 +67,7 @@ by-none m n b c h = ap (setsBy m) (csns-none n b c h)
 
 -- ---- the counters: what was counted and what is left are the whole
 
+-- with so many sets left, from c on, each master's counter has its sets before c
 abbrev pub Counting : ℕ → Bytes → List ℕ → ℕ → ℕ → Type 0
 Counting n b by left c = (m : ℕ) → m < 16 → (getD by m 0 + left ≤ n) × (setsBy m (csnsIn n b 24) ≡ getD by m 0 + setsBy m (csnsIn left b c))
 

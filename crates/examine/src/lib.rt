@@ -4,7 +4,6 @@ mod head;
 mod records;
 mod sheet;
 
-pub use head::in_roster;
 pub use records::are_records;
 pub use records::offered_count;
 pub use sheet::is_sheet;

@@ -1,2 +1,3 @@
 pub mod VerdictForm
-pub mod VerdictPlaces
+pub mod VerdictsBack
+pub mod VerdictWriting

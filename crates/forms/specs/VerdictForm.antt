@@ -1,5 +1,5 @@
 -- The verdicts of a closing as code reads them: 5 bytes a set, code u8 and key u32.
-use Prim.Native.Nat.{ℕ, zero, suc, _+_}
+use Prim.Native.Nat.{ℕ, zero, suc, _+_, _*_}
 use mathlib.Core.List.{List, [], _∷_}
 use lib.ListN.{getD}
 use lib.Dec.{eqb}
@@ -7,6 +7,14 @@ use Rattle.words.specs.Words.{Bytes, word}
 use Rattle.rules.specs.declared.answer.Verdict.{Verdict}
 use Rattle.rules.specs.declared.answer.Verdict.the-variants.{Commit, Lost, Unfit}
 use Rattle.rules.specs.Lists.{if_then_else_}
+
+-- how long n verdicts are
+abbrev pub verdictsLength : ℕ → ℕ
+verdictsLength n = 5 * n
+
+-- where the verdict of set i stands: behind those of the sets before it
+abbrev pub verdictPlace : ℕ → ℕ
+verdictPlace i = verdictsLength i
 
 -- a verdict from its code and key
 unfoldable pub verdictOf : ℕ → ℕ → Verdict

@@ -3,16 +3,16 @@ use rules::Verdict;
 use words::get32;
 use words::put32;
 ghost use mathlib.Core.Path.{_≡_};
-ghost use Prim.Native.Nat.{ℕ, _+_, _*_, _≤_, _<_};
+ghost use Prim.Native.Nat.{ℕ, _+_, _≤_, _<_};
 ghost use lib.ListN.{length};
-ghost use Rattle.words.specs.Words.{stored};
-ghost use Rattle.rules.specs.Refused.{verdictBytes};
-ghost use Rattle.forms.specs.VerdictForm.{verdictOf, verdictsIn, verdictAt};
+ghost use Rattle.rules.specs.Sheet.{maxSets};
+ghost use Rattle.forms.specs.VerdictForm.{verdictsLength, verdictOf, verdictsIn, verdictAt};
+ghost use Rattle.forms.specs.VerdictWriting.{VerdictAdded};
 
-// The verdict of set i: its code and its key.
+// The verdict of set i, its code and its key, goes behind those of the sets before it.
 pub fn put_verdict(out: &mut [u8], i: usize, verdict: Verdict)
-    requires { ⌜ 5 * i + 5 ≤ length (now out) ⌝ }
-    ensures { λ _. ⌜ now (out .exit) ≡ stored (now (out .entry)) (5 * i) (verdictBytes verdict) ⌝ }
+    requires { ⌜ verdictsLength (i + 1) ≤ length (now out) ⌝ }
+    ensures { λ _. ⌜ VerdictAdded i verdict (now (out .entry)) (now (out .exit)) ⌝ }
 {
     let at = 5 * i;
     out[at] = verdict.code();
@@ -31,9 +31,9 @@ fn verdict_of(code: u8, key: u32) -> Verdict
     Verdict::Unfit(key)
 }
 
-// The verdict of set i, of as many as the bytes may be of.
+// The verdict of set i, however many verdicts the bytes hold.
 pub fn set_verdict(b: &[u8], i: usize) -> Verdict
-    requires { ⌜ 5 * i + 5 ≤ length (now b) ⌝ }
+    requires { ⌜ verdictsLength (i + 1) ≤ length (now b) ⌝ }
     ensures { λ r. ⌜ ((n : ℕ) → i < n → r ≡ verdictAt (verdictsIn n (now (b .entry)) 0) i) ⌝ }
 {
     verdict_of(b[5 * i], get32(b, 5 * i + 1))
@@ -41,8 +41,8 @@ pub fn set_verdict(b: &[u8], i: usize) -> Verdict
 
 // The length of n verdicts.
 pub fn verdicts_length(n: usize) -> usize
-    requires { ⌜ n ≤ 64 ⌝ }
-    ensures { λ r. ⌜ r ≡ 5 * n ⌝ }
+    requires { ⌜ n ≤ maxSets ⌝ }
+    ensures { λ r. ⌜ r ≡ verdictsLength n ⌝ }
 {
     5 * n
 }

@@ -1,3 +1,2 @@
-pub mod Writing
 pub mod OfferLaws
-pub mod JoinLaws
+pub mod OneLaws

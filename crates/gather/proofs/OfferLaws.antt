@@ -12,23 +12,28 @@ use lib.Dec.{ltb, leb, eqb}
 use Rattle.words.specs.Words.{Bytes, stored}
 use Rattle.words.specs.WordLaws.{stored-front, length-stored}
 use Rattle.rules.specs.declared.answer.Refusal.{Refusal}
-use Rattle.rules.specs.declared.answer.Refusal.the-variants.{WrongEpoch, WrongRoster, BufferShort}
+use Rattle.rules.specs.declared.answer.Refusal.the-variants.{SheetIllFormed, OfferIllFormed, WrongEpoch, WrongRoster, BufferShort}
+use Rattle.rules.specs.declared.answer.Answer.the-variants as answer
 use Rattle.rules.specs.Answers.{refusalNumber}
 use Rattle.rules.specs.Lists.{_and_, if_then_else_}
 use Rattle.rules.specs.Numbers.{masterOf}
-use Rattle.rules.specs.Sheet.{Sheet, maxSets, inRoster, soundSet, soundSheet, sheetBytes, sheetIn, isSheet, offeredRecords, areRecords, readRecords}
+use Rattle.rules.specs.Sheet.{Sheet, maxSets, inRoster, soundSet, soundSheet, sheetBytes, sheetIn, isSheet, readSheet, offeredRecords, areRecords, readRecords}
 use Rattle.rules.specs.Gathering.{Offer, aSet, aNotice, soundOf, holding, withOffer, joined}
-use Rattle.rules.specs.Refused.{Outcome, refused, done, sheetRoom, setWith, offeredSet, offeredNotice, offerTo, putOutcome, noticeOutcome}
-use Rattle.rules.specs.Promises.{over}
+use Rattle.rules.specs.Refused.{Outcome, refused, done, sheetRoom, setWith, offeredSet, offeredNotice, offerTo}
+use Rattle.rules.specs.Promises.{Promise}
 use Rattle.laws.specs.Tests.{both}
+use Rattle.laws.specs.Meets.{refuses, writes}
 use Rattle.laws.specs.FormLaws.{→fits}
 use Rattle.laws.specs.Says.{Says, is-le, itself, _also_}
 use Rattle.laws.specs.SheetLaws.{sheet-decoded, sheet-is, sheet-read, sheet-unread, records-read, records-unread, written-records, sheet-sound}
 use Rattle.laws.specs.GatherSound.{FairOffer, head-of}
+use Rattle.laws.specs.Notices.{noticeBy}
+use Rattle.laws.specs.NotRefused.{setBy}
 use Rattle.laws.specs.OneOffer.{one-sound, put-joins}
 use Rattle.gather.specs.declared.offer.Admission.{Admission}
 use Rattle.gather.specs.declared.offer.Admission.the-variants as admission
-use Rattle.gather.specs.OneSheet.{Small, Written, setOf, noticeBy}
+use Rattle.joining.specs.Writes.{Written}
+use Rattle.gather.specs.OneSheet.{Small, Joinable, ofSet, ofNotice}
 use Rattle.gather.specs.Offers.{goodSet, goodNotice, admissionOf, Grant}
 
 -- ---- the tests
@@ -103,7 +108,7 @@ grant s e m room p = go (eqb e s.epoch) refl (inRoster s.roster m) refl (ltb roo
 
 -- ---- the offers
 
-pub good-set : (e sen csn : ℕ) (b : Bytes) → goodSet e sen b ≡ true → offeredSet e sen csn b ≡ some (aSet (setOf sen csn b))
+pub good-set : (e sen csn : ℕ) (b : Bytes) → goodSet e sen b ≡ true → offeredSet e sen csn b ≡ some (aSet (setBy csn sen (offeredRecords b)))
 unfolding offeredSet setWith
 good-set e sen csn b h =
     let f = set-says e sen b .told h in
@@ -127,51 +132,43 @@ pub bad-notice : (e m n : ℕ) → goodNotice e m n ≡ false → offeredNotice 
 unfolding offeredNotice goodNotice
 bad-notice e m n h = simp h
 
--- ---- the refusals, and what is written
+-- ---- what an offer to a sheet meets
 
-module _ (b : Bytes) (e sen csn : ℕ) (rs : Bytes) (room : ℕ) where
-  pub put-2 : isSheet b ≡ false → putOutcome b e sen csn rs room ≡ refused 2
-  unfolding putOutcome offerTo
-  put-2 h = ap (λ (s : Option Sheet). offerTo s (offeredSet e sen csn rs) e (masterOf csn) room) (sheet-unread b h)
+module _ (b : Bytes) (o : Option Offer) (e m : ℕ) (l : Bytes) where
+  pub sheet-refused : isSheet b ≡ false → Promise (offerTo (readSheet b) o e m (length l)) l (answer.Refused SheetIllFormed) l
+  unfolding offerTo
+  sheet-refused h = refuses _ SheetIllFormed l (ap (λ (s : Option Sheet). offerTo s o e m (length l)) (sheet-unread b h))
 
-  pub put-3 : isSheet b ≡ true → goodSet e sen rs ≡ false → putOutcome b e sen csn rs room ≡ refused 3
-  unfolding putOutcome offerTo
-  put-3 h k = ap₂ (λ (s : Option Sheet) (o : Option Offer). offerTo s o e (masterOf csn) room) (sheet-read b h) (bad-set e sen csn rs k)
+  module _ (h : isSheet b ≡ true) where
+    pub offer-refused : o ≡ none → Promise (offerTo (readSheet b) o e m (length l)) l (answer.Refused OfferIllFormed) l
+    unfolding offerTo
+    offer-refused k = refuses _ OfferIllFormed l (ap₂ (λ (s : Option Sheet) (x : Option Offer). offerTo s x e m (length l)) (sheet-read b h) k)
 
-  pub put-to : isSheet b ≡ true → goodSet e sen rs ≡ true
-      → putOutcome b e sen csn rs room ≡ offerTo (some (sheetIn b)) (some (aSet (setOf sen csn rs))) e (masterOf csn) room
-  unfolding putOutcome
-  put-to h k = ap₂ (λ (s : Option Sheet) (o : Option Offer). offerTo s o e (masterOf csn) room) (sheet-read b h) (good-set e sen csn rs k)
+    module _ {x : Offer} (k : o ≡ some x) where
+      meets : offerTo (readSheet b) o e m (length l) ≡ offerTo (some (sheetIn b)) (some x) e m (length l)
+      meets = ap₂ (λ (s : Option Sheet) (y : Option Offer). offerTo s y e m (length l)) (sheet-read b h) k
 
-module _ (b : Bytes) (e m n room : ℕ) where
-  pub notice-2 : isSheet b ≡ false → noticeOutcome b e m n room ≡ refused 2
-  unfolding noticeOutcome offerTo
-  notice-2 h = ap (λ (s : Option Sheet). offerTo s (offeredNotice e m n) e m room) (sheet-unread b h)
+      pub not-admitted : (y : Refusal) → admissionOf (sheetIn b) e m (length l) ≡ admission.Refused y → Promise (offerTo (readSheet b) o e m (length l)) l (answer.Refused y) l
+      not-admitted y p = refuses _ y l (meets ∙ refused-by (sheetIn b) x e m (length l) y p)
 
-  pub notice-3 : isSheet b ≡ true → goodNotice e m n ≡ false → noticeOutcome b e m n room ≡ refused 3
-  unfolding noticeOutcome offerTo
-  notice-3 h k = ap₂ (λ (s : Option Sheet) (o : Option Offer). offerTo s o e m room) (sheet-read b h) (bad-notice e m n k)
-
-  pub notice-to : isSheet b ≡ true → goodNotice e m n ≡ true
-      → noticeOutcome b e m n room ≡ offerTo (some (sheetIn b)) (some (aNotice (noticeBy m n))) e m room
-  unfolding noticeOutcome
-  notice-to h k = ap₂ (λ (s : Option Sheet) (o : Option Offer). offerTo s o e m room) (sheet-read b h) (good-notice e m n k)
+      pub taken-in : {after : Bytes} {n : ℕ} → admissionOf (sheetIn b) e m (length l) ≡ admission.Granted → Written (withOffer (sheetIn b) x) l n after
+          → Promise (offerTo (readSheet b) o e m (length l)) l (answer.Wrote n) after
+      taken-in {after} {n} p w = writes _ (sheetBytes (withOffer (sheetIn b) x)) l after n (meets ∙ granted-by (sheetIn b) x e m (length l) p) (w .long) (w .bytes)
 
 -- ---- the sheet of one offer is ready to be joined
 
 -- the first n bytes of the small buffer are the sheet of the offer, of the sheet's epoch and roster
 pub record Ready (s : Sheet) (o : Offer) (one : Bytes) (n : ℕ) : Type 0 where
-  pub fair : FairOffer s.epoch s.roster o
-  pub long : n ≤ length one
-  pub is : isSheet (take n one) ≡ true
-  pub value : sheetIn (take n one) ≡ holding s.epoch s.roster (o ∷ [])
+  pub joins : Joinable s one n
+  pub gives : joined s (sheetIn (take n one)) ≡ withOffer s o
 
 first-bytes : (bs before : Bytes) (n : ℕ) {after : Bytes} → after ≡ stored before 0 bs → n ≡ length bs → length bs ≤ length before → take n after ≡ bs
 first-bytes bs before n p q h =
     ap (take n) (p ∙ stored-front before bs h) ∙ take-at bs (drop (length bs) before) n (sym q)
 
-pub ready : (b : Bytes) (e r : ℕ) (o : Offer) (before : Bytes) {after : Bytes} {n : ℕ} → isSheet b ≡ true → e ≡ sheetIn b .epoch → r ≡ sheetIn b .roster → FairOffer (sheetIn b .epoch) (sheetIn b .roster) o
+ready : (b : Bytes) (e r : ℕ) (o : Offer) (before : Bytes) {after : Bytes} {n : ℕ} → isSheet b ≡ true → e ≡ sheetIn b .epoch → r ≡ sheetIn b .roster → FairOffer (sheetIn b .epoch) (sheetIn b .roster) o
     → Small (holding e r (o ∷ [])) before n after → Ready (sheetIn b) o after n
+unfolding holding soundOf
 ready b e r o before {after} {n} h p q f w =
     let s = sheetIn b in
     let one = holding s.epoch s.roster (o ∷ []) in
@@ -180,40 +177,43 @@ ready b e r o before {after} {n} h p q f w =
     let fill : take n after ≡ sheetBytes one =
     first-bytes (sheetBytes (holding e r (o ∷ []))) before n (w .bytes) (w .long) (omega (arith, w .long, w .fits)) ∙ ap sheetBytes same in
     let k : length after ≡ length before = ap length (w .bytes) ∙ length-stored before 0 _ in
-    record { fair = f; long = omega (arith, w .fits); is = ap isSheet fill ∙ sheet-is one sound; value = ap sheetIn fill ∙ sheet-decoded one sound }
-
--- what joining with it gives
-pub joined-one : (s : Sheet) (o : Offer) (one : Bytes) (n : ℕ) → Ready s o one n → joined s (sheetIn (take n one)) ≡ withOffer s o
-joined-one s o one n r = ap (joined s) (r .value) ∙ put-joins s s.roster o (r .fair)
-
-pub same-epoch : (s : Sheet) (o : Offer) (one : Bytes) (n : ℕ) → Ready s o one n → s.epoch ≡ sheetIn (take n one) .epoch
-unfolding holding soundOf
-same-epoch s o one n r = sym (ap (λ (x : Sheet). x .epoch) (r .value))
-
-pub same-roster : (s : Sheet) (o : Offer) (one : Bytes) (n : ℕ) → Ready s o one n → s.roster ≡ sheetIn (take n one) .roster
-unfolding holding soundOf
-same-roster s o one n r = sym (ap (λ (x : Sheet). x .roster) (r .value))
+    let value : sheetIn (take n after) ≡ one = ap sheetIn fill ∙ sheet-decoded one sound in
+    record {
+      joins = record {
+        long = omega (arith, w .fits);
+        is = ap isSheet fill ∙ sheet-is one sound;
+        epoch = sym (ap (λ (x : Sheet). x .epoch) value);
+        roster = sym (ap (λ (x : Sheet). x .roster) value);
+      };
+      gives = ap (joined s) value ∙ put-joins s s.roster o f;
+    }
 
 -- a well-formed set of a master in the roster is fair, and so is a notice
-pub fair-set : (s : Sheet) (e sen csn room : ℕ) (b : Bytes) → goodSet e sen b ≡ true → Grant s e (masterOf csn) room → csn < 256 ^ 8
-    → FairOffer s.epoch s.roster (aSet (setOf sen csn b))
+fair-set : (s : Sheet) (e sen csn room : ℕ) (b : Bytes) → goodSet e sen b ≡ true → Grant s e (masterOf csn) room → csn < 256 ^ 8
+    → FairOffer s.epoch s.roster (aSet (setBy csn sen (offeredRecords b)))
 unfolding soundSet
 fair-set s e sen csn room b h g k =
     let f = set-says e sen b .told h in
     let low : sen ≤ s.epoch = omega (arith, f .1 .0, g .same) in
     both (→fits 8 csn k) (both (le-leb sen s.epoch low) (both (g .roster) (written-records b (offeredRecords b) (records-read b (f .1 .1)) .1)))
 
-pub fair-notice : (s : Sheet) (e m n room : ℕ) → goodNotice e m n ≡ true → Grant s e m room
+fair-notice : (s : Sheet) (e m n room : ℕ) → goodNotice e m n ≡ true → Grant s e m room
     → FairOffer s.epoch s.roster (aNotice (noticeBy m n))
 fair-notice s e m n room h g = let f = notice-says e m n .told h in (omega (arith, f .1 .0), f .1 .1, g .roster)
 
+-- so the small buffer that is written for it is ready
+pub set-ready : (b : Bytes) (e r sen csn room : ℕ) (rs before : Bytes) {after : Bytes} {n : ℕ} → csn < 256 ^ 8 → (isSheet b ≡ true) × (goodSet e sen rs ≡ true) × (Grant (sheetIn b) e (masterOf csn) room)
+    → r ≡ sheetIn b .roster → Small (ofSet e r sen csn rs) before n after → Ready (sheetIn b) (aSet (setBy csn sen (offeredRecords rs))) after n
+unfolding ofSet
+set-ready b e r sen csn room rs before k p q w =
+    ready b e r (aSet (setBy csn sen (offeredRecords rs))) before (p .0) (p .2 .same) q (fair-set (sheetIn b) e sen csn room rs (p .1) (p .2) k) w
+
+pub notice-ready : (b : Bytes) (e r m count room : ℕ) (before : Bytes) {after : Bytes} {n : ℕ} → (isSheet b ≡ true) × (goodNotice e m count ≡ true) × (Grant (sheetIn b) e m room)
+    → r ≡ sheetIn b .roster → Small (ofNotice e r m count) before n after → Ready (sheetIn b) (aNotice (noticeBy m count)) after n
+unfolding ofNotice
+notice-ready b e r m count room before p q w =
+    ready b e r (aNotice (noticeBy m count)) before (p .0) (p .2 .same) q (fair-notice (sheetIn b) e m count room (p .1) (p .2)) w
+
 -- what joining with it writes
-pub added : (b one : Bytes) (n : ℕ) (o : Offer) (before : Bytes) {after : Bytes} {k : ℕ} → Ready (sheetIn b) o one n
-    → (after ≡ over before (sheetBytes (joined (sheetIn b) (sheetIn (take n one))))) × (k ≡ length (sheetBytes (joined (sheetIn b) (sheetIn (take n one)))))
-    → Written (withOffer (sheetIn b) o) before k after
-added b one n o before r w =
-    let e = joined-one (sheetIn b) o one n r in
-    record {
-      bytes = w .0 ∙ ap (λ (s : Sheet). over before (sheetBytes s)) e;
-      long = w .1 ∙ ap (λ (s : Sheet). length (sheetBytes s)) e;
-    }
+pub added : {s : Sheet} {o : Offer} {one before after : Bytes} {n k : ℕ} → Ready s o one n → Written (joined s (sheetIn (take n one))) before k after → Written (withOffer s o) before k after
+added r w = rw (← r .gives) w

@@ -1,3 +1,2 @@
-pub mod OneSheet
 pub mod Offers
-pub mod OneLaws
+pub mod OneSheet

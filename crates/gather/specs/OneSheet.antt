@@ -2,23 +2,17 @@
 use Prim.Native.Nat.{ℕ, _≤_}
 use mathlib.Core.Path.{_≡_}
 use mathlib.Core.List.{[], _∷_}
-use lib.ListN.{length}
+use mathlib.Core.Bool.{true}
+use lib.ListN.{length, take}
 use Rattle.words.specs.Words.{Bytes, stored}
-use Rattle.rules.specs.Sheet.{WriteSet, Sheet, sheetBytes, offeredRecords}
-use Rattle.rules.specs.Gathering.{Notice, aSet, aNotice, holding}
-use Rattle.rules.specs.Promises.{over}
-
--- the set that is offered by its numbers and record bytes
-abbrev pub setOf : ℕ → ℕ → Bytes → WriteSet
-setOf sen csn b = record { csn = csn; sen = sen; records = offeredRecords b }
-
--- the notice that is offered by its numbers
-abbrev pub noticeBy : ℕ → ℕ → Notice
-noticeBy master n = record { master = master; number = n }
+use Rattle.rules.specs.Sheet.{Sheet, sheetBytes, sheetIn, isSheet, offeredRecords}
+use Rattle.rules.specs.Gathering.{aSet, aNotice, holding}
+use Rattle.laws.specs.Notices.{noticeBy}
+use Rattle.laws.specs.NotRefused.{setBy}
 
 -- the sheet of one set
 unfoldable pub ofSet : ℕ → ℕ → ℕ → ℕ → Bytes → Sheet
-ofSet epoch roster sen csn b = holding epoch roster (aSet (setOf sen csn b) ∷ [])
+ofSet epoch roster sen csn b = holding epoch roster (aSet (setBy csn sen (offeredRecords b)) ∷ [])
 
 -- the sheet of one notice
 unfoldable pub ofNotice : ℕ → ℕ → ℕ → ℕ → Sheet
@@ -30,7 +24,9 @@ pub record Small (s : Sheet) (before : Bytes) (n : ℕ) (after : Bytes) : Type 0
   pub long : n ≡ length (sheetBytes s)
   pub fits : n ≤ length before
 
--- a lent buffer has the sheet over what it held, and n is the sheet's length
-pub record Written (s : Sheet) (before : Bytes) (n : ℕ) (after : Bytes) : Type 0 where
-  pub bytes : after ≡ over before (sheetBytes s)
-  pub long : n ≡ length (sheetBytes s)
+-- the first n bytes of a small buffer are a sheet of the epoch and the roster of another, so the two can be joined
+pub record Joinable (s : Sheet) (one : Bytes) (n : ℕ) : Type 0 where
+  pub long : n ≤ length one
+  pub is : isSheet (take n one) ≡ true
+  pub epoch : s.epoch ≡ sheetIn (take n one) .epoch
+  pub roster : s.roster ≡ sheetIn (take n one) .roster

@@ -1,11 +1,8 @@
-// Gathering: open, put, notice and join, over the forms' promises alone.
-mod held;
-mod joining;
+// Gathering: open, put and notice, over the forms' promises alone.
 mod offer;
 mod one;
 mod opening;
 
-pub use joining::join;
 pub use offer::notice;
 pub use offer::put;
 pub use opening::open;

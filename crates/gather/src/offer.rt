@@ -1,26 +1,31 @@
 // Putting in a set or a notice: examined, admitted, and joined as the sheet of that one offer.
-use crate::joining::join_into;
 use crate::one::one_notice;
 use crate::one::one_set;
+use forms::ONE_ROOM;
 use forms::are_records;
 use forms::epoch;
 use forms::in_roster;
 use forms::is_sheet;
 use forms::roster;
+use joining::join_into;
 use rules::Answer;
 use rules::MAX_NOTICE;
 use rules::Refusal;
 use rules::SHEET_ROOM;
 ghost use mathlib.Core.Path.{_≡_};
 ghost use mathlib.Core.Bool.{true};
-ghost use Prim.Native.Nat.{_<_};
-ghost use lib.ListN.{length};
-ghost use Rattle.rules.specs.Sheet.{isSheet, sheetIn};
-ghost use Rattle.rules.specs.Refused.{putOutcome, noticeOutcome};
+ghost use Prim.Native.Nat.{_≤_, _<_};
+ghost use lib.ListN.{length, take};
+ghost use Rattle.rules.specs.Sheet.{isSheet, sheetIn, offeredRecords};
+ghost use Rattle.rules.specs.Refused.{sheetRoom, putOutcome, noticeOutcome};
 ghost use Rattle.rules.specs.Promises.{Promise};
 ghost use Rattle.rules.specs.Numbers.{masterOf};
-ghost use Rattle.rules.specs.Gathering.{aSet, aNotice, withOffer};
-ghost use Rattle.gather.specs.OneSheet.{Written, setOf, noticeBy};
+ghost use Rattle.rules.specs.Gathering.{aSet, aNotice, withOffer, joined};
+ghost use Rattle.laws.specs.Notices.{noticeBy};
+ghost use Rattle.laws.specs.NotRefused.{setBy};
+ghost use Rattle.sheets.specs.SheetReadings.{masterCount};
+ghost use Rattle.joining.specs.Writes.{Written};
+ghost use Rattle.gather.specs.OneSheet.{Joinable};
 ghost use Rattle.gather.specs.Offers.{goodSet, goodNotice, admissionOf, Grant};
 
 // Whether a sheet takes an offer in.
@@ -61,7 +66,7 @@ fn is_notice(epoch: u32, master: u8, count: u8) -> bool
 
 // The refusals that a well-formed offer of a master may meet.
 fn admit(sheet: &[u8], offered: u32, master: u32, room: usize) -> Admission
-    requires { ⌜ (isSheet (now sheet) ≡ true) × (master < 16) ⌝ }
+    requires { ⌜ (isSheet (now sheet) ≡ true) × (master < masterCount) ⌝ }
     ensures { λ r. ⌜ r ≡ admissionOf (sheetIn (now (sheet .entry))) offered master room ⌝ }
 {
     if offered != epoch(sheet) {
@@ -76,14 +81,22 @@ fn admit(sheet: &[u8], offered: u32, master: u32, room: usize) -> Admission
     Admission::Granted
 }
 
+// The sheet of one offer, the first n bytes of a small buffer, joined.
+fn add<'a>(sheet: &'a [u8], one: &'a [u8], n: usize, out: &mut [u8]) -> usize
+    requires { ⌜ (isSheet (now sheet) ≡ true) × (Joinable (sheetIn (now sheet)) (now one) n) × (sheetRoom ≤ length (now out)) ⌝ }
+    ensures { λ r. ⌜ Written (joined (sheetIn (now (sheet .entry))) (sheetIn (take n (now (one .entry))))) (now (out .entry)) r (now (out .exit)) ⌝ }
+{
+    join_into(sheet, &one[..n], out)
+}
+
 // An admitted set, joined as a sheet of its own.
 fn add_set(sheet: &[u8], epoch: u32, sen: u32, csn: u64, records: &[u8], out: &mut [u8]) -> usize
     requires { ⌜ (isSheet (now sheet) ≡ true) × (goodSet epoch sen (now records) ≡ true) × (Grant (sheetIn (now sheet)) epoch (masterOf csn) (length (now out))) ⌝ }
-    ensures { λ r. ⌜ Written (withOffer (sheetIn (now (sheet .entry))) (aSet (setOf sen csn (now (records .entry))))) (now (out .entry)) r (now (out .exit)) ⌝ }
+    ensures { λ r. ⌜ Written (withOffer (sheetIn (now (sheet .entry))) (aSet (setBy csn sen (offeredRecords (now (records .entry)))))) (now (out .entry)) r (now (out .exit)) ⌝ }
 {
-    let mut one = [0u8; 168];
+    let mut one = [0u8; ONE_ROOM];
     let n = one_set(&mut one, epoch, roster(sheet), sen, csn, records);
-    join_into(sheet, &one[..n], out)
+    add(sheet, &one, n, out)
 }
 
 // An admitted notice, joined as a sheet of its own.
@@ -91,9 +104,9 @@ fn add_notice(sheet: &[u8], epoch: u32, master: u8, count: u8, out: &mut [u8]) -
     requires { ⌜ (isSheet (now sheet) ≡ true) × (goodNotice epoch master count ≡ true) × (Grant (sheetIn (now sheet)) epoch master (length (now out))) ⌝ }
     ensures { λ r. ⌜ Written (withOffer (sheetIn (now (sheet .entry))) (aNotice (noticeBy master count))) (now (out .entry)) r (now (out .exit)) ⌝ }
 {
-    let mut one = [0u8; 168];
+    let mut one = [0u8; ONE_ROOM];
     let n = one_notice(&mut one, epoch, roster(sheet), master, count);
-    join_into(sheet, &one[..n], out)
+    add(sheet, &one, n, out)
 }
 
 pub fn put(sheet: &[u8], epoch: u32, sen: u32, csn: u64, records: &[u8], out: &mut [u8]) -> Answer

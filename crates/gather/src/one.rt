@@ -1,4 +1,5 @@
 // The sheet of one offer, written into a small buffer: putting an offer in is joining with it.
+use forms::MASTERS;
 use forms::length_with;
 use forms::offered_count;
 use forms::put_body;
@@ -6,16 +7,18 @@ use forms::put_entry;
 use forms::put_no_notices;
 use forms::put_notices;
 use forms::put_sheet_start;
+use rules::NO_NOTICE;
 ghost use mathlib.Core.Path.{_≡_};
 ghost use mathlib.Core.Bool.{true};
 ghost use Prim.Native.Nat.{_≤_, _<_};
 ghost use lib.ListN.{length};
-ghost use Rattle.rules.specs.Sheet.{areRecords};
+ghost use Rattle.rules.specs.Sheet.{maxSets, areRecords};
+ghost use Rattle.sheets.specs.SheetReadings.{masterCount, oneRoom};
 ghost use Rattle.gather.specs.OneSheet.{Small, ofSet, ofNotice};
 
 // One set: the head, one entry, and its records.
 pub fn one_set(out: &mut [u8], epoch: u32, roster: u16, sen: u32, csn: u64, records: &[u8]) -> usize
-    requires { ⌜ (length (now out) ≡ 168) × (areRecords (now records) ≡ true) ⌝ }
+    requires { ⌜ (length (now out) ≡ oneRoom) × (areRecords (now records) ≡ true) ⌝ }
     ensures { λ r. ⌜ Small (ofSet epoch roster sen csn (now (records .entry))) (now (out .entry)) r (now (out .exit)) ⌝ }
 {
     let n = offered_count(records);
@@ -28,11 +31,11 @@ pub fn one_set(out: &mut [u8], epoch: u32, roster: u16, sen: u32, csn: u64, reco
 
 // One notice: the head alone.
 pub fn one_notice(out: &mut [u8], epoch: u32, roster: u16, master: u8, count: u8) -> usize
-    requires { ⌜ (length (now out) ≡ 168) × (master < 16) × (count ≤ 64) ⌝ }
+    requires { ⌜ (length (now out) ≡ oneRoom) × (master < masterCount) × (count ≤ maxSets) ⌝ }
     ensures { λ r. ⌜ Small (ofNotice epoch roster master count) (now (out .entry)) r (now (out .exit)) ⌝ }
 {
     let m = master as usize;
-    let mut notices = [255u8; 16];
+    let mut notices = [NO_NOTICE; MASTERS];
     notices[m] = count;
     put_sheet_start(out, epoch, roster, false, 0);
     put_notices(out, &notices);

@@ -1,4 +1,4 @@
--- A master's sets counted one by one, and what it is that a master owes nothing.
+-- A master's sets counted one by one, and when a master owes nothing.
 use Prim.Native.Nat.{ℕ, _+_, _%_, _≤_, _<_}
 use mathlib.Core.Path.{_≡_, sym, ap}
 use mathlib.Core.Bool.{true, not}

@@ -5,15 +5,20 @@ use mathlib.Core.Logic.{_⊎_, inl, inr, ⊎-elim}
 use mathlib.Core.Bool.{Bool, true, false}
 use mathlib.Core.List.{List}
 use native.Mathlib.Omega.{arith}
-use borrow.Author.Tests.{eqb-true, eqb-false, ltb-true, ltb-false}
-use lib.ListN.{length, getD}
-use lib.Dec.{ltb, eqb}
+use borrow.Author.Tests.{ltb-true, ltb-false}
+use lib.ListN.{length}
+use lib.Dec.{ltb}
 use Rattle.rules.specs.Lists.{if_then_else_}
 use Rattle.rules.specs.Sheet.{WriteSet, Sheet, insert, soundRecords}
 use Rattle.laws.specs.Distinct.{tri, less, more, equal}
+use Rattle.laws.specs.Says.{clash}
 use Rattle.sheets.specs.SheetReadings.{setAt, recordAt}
-use Rattle.judging.specs.Judged.{Inserts, InsertsIn, LeastAbove, smaller}
-use Rattle.judging.specs.FitLaws.{larger-record}
+use Rattle.judging.specs.declared.key.FirstKey.{FirstKey}
+use Rattle.judging.specs.declared.key.FirstKey.the-variants.{Key, None}
+use Rattle.judging.specs.Answers.{smaller}
+use Rattle.judging.specs.Tables.{noneAt}
+use Rattle.judging.specs.Judged.{Inserts, InsertsIn, IsLeast, LeastAbove}
+use Rattle.judging.proofs.InOrder.{larger-record}
 
 -- ---- in one set
 
@@ -23,12 +28,9 @@ NoneBefore w after j = (k : ℕ) → k < j → recordAt w k .kind ≡ insert →
 
 module _ (w : WriteSet) (after j : ℕ) (f : NoneBefore w after j) where
   pub insert-here : soundRecords w.records ≡ true → j < length w.records → recordAt w j .kind ≡ insert → after < recordAt w j .key
-      → LeastAbove (Inserts w) after (recordAt w j .key)
+      → LeastAbove (Inserts w) after (Key (recordAt w j .key))
   insert-here s h e a =
-      record {
-        found = λ n. (a, record { number = j; within = h; is-insert = e; keyed = refl });
-        least = λ k b p. (omega arith, go k b p);
-      }
+      record { above = a; holds = record { number = j; within = h; is-insert = e; keyed = refl }; least = go }
     where
       go : (k : ℕ) → after < k → Inserts w k → recordAt w j .key ≤ k
       go k b p =
@@ -40,78 +42,67 @@ module _ (w : WriteSet) (after j : ℕ) (f : NoneBefore w after j) where
             | more l ↦ let c = larger-record w s j (p .number) l in-set in omega arith
           ]
 
-  pub insert-none : length w.records ≤ j → LeastAbove (Inserts w) after 0
-  insert-none h =
-      record {
-        found = λ n. absurd (n refl);
-        least = λ k b p. absurd (go k b p);
-      }
-    where
-      go : (k : ℕ) → after < k → Inserts w k → ⊥
-      go k b p =
-          let q = p .keyed in let in-set = p .within in let c = f (p .number) (omega arith) (p .is-insert) in omega arith
+  pub insert-none : length w.records ≤ j → LeastAbove (Inserts w) after None
+  insert-none h k b p =
+      let q = p .keyed in let in-set = p .within in let c = f (p .number) (omega arith) (p .is-insert) in omega arith
 
 -- ---- the smaller of two
 
--- the one that is least of P's is least of P's and Q's, where Q has none or a larger one
-least-both : {P Q R : ℕ → Type 0} {after : ℕ} (a b : ℕ) → ((k : ℕ) → R k → P k ⊎ Q k) → ((k : ℕ) → P k → R k)
-    → LeastAbove P after a → LeastAbove Q after b → (b ≡ 0) ⊎ ((0 < a) × (a ≤ b)) → LeastAbove R after a
-least-both {Q} {after} a b of left p q d =
-    record {
-      found = λ n. let f = p .found n in (f .0, left a (f .1));
-      least = λ k h r. ⊎-elim (λ x. p .least k h x) (λ x. other k h x d) (of k r);
-    }
-  where
-    other : (k : ℕ) → after < k → Q k → (b ≡ 0) ⊎ ((0 < a) × (a ≤ b)) → (0 < a) × (a ≤ k)
-    other k h x d = let l = q .least k h x in ⊎-elim (λ z. absurd (omega arith)) (λ z. (omega arith, omega arith)) d
+module _ {P Q R : ℕ → Type 0} (after : ℕ) (of : (k : ℕ) → R k → P k ⊎ Q k) (left : (k : ℕ) → P k → R k) where
+  -- P's least is R's, where Q has none
+  least-alone : (a : FirstKey) → LeastAbove P after a → LeastAbove Q after None → LeastAbove R after a
+  least-alone None p q = λ k h r. ⊎-elim (λ x. p k h x) (λ x. q k h x) (of k r)
+  least-alone (Key a) p q =
+      record { above = p .above; holds = left a (p .holds); least = λ k h r. ⊎-elim (λ x. p .least k h x) (λ x. absurd (q k h x)) (of k r) }
 
-module _ {P Q R : ℕ → Type 0} {after : ℕ} (of : (k : ℕ) → R k → P k ⊎ Q k) (left : (k : ℕ) → P k → R k) (right : (k : ℕ) → Q k → R k) where
-  pub smaller-least : (a b : ℕ) → LeastAbove P after a → LeastAbove Q after b → LeastAbove R after (smaller a b)
+  -- or a larger one
+  least-first : (a b : ℕ) → a ≤ b → IsLeast P after a → IsLeast Q after b → IsLeast R after a
+  least-first a b l p q =
+      record {
+        above = p .above;
+        holds = left a (p .holds);
+        least = λ k h r. ⊎-elim (λ x. p .least k h x) (λ x. let m = q .least k h x in omega arith) (of k r);
+      }
+
+swapped : {P Q R : ℕ → Type 0} → ((k : ℕ) → R k → P k ⊎ Q k) → (k : ℕ) → R k → Q k ⊎ P k
+swapped of k r = ⊎-elim inr inl (of k r)
+
+module _ {P Q R : ℕ → Type 0} (after : ℕ) (of : (k : ℕ) → R k → P k ⊎ Q k) (left : (k : ℕ) → P k → R k) (right : (k : ℕ) → Q k → R k) where
+  smaller-least : (a b : FirstKey) → LeastAbove P after a → LeastAbove Q after b → LeastAbove R after (smaller a b)
   unfolding smaller
-  smaller-least a b p q = go (eqb a 0) refl (eqb b 0) refl (ltb b a) refl
+  smaller-least None b p q = least-alone after (swapped of) right b q p
+  smaller-least (Key j) None p q = least-alone after of left (Key j) p q
+  smaller-least (Key j) (Key k) p q = go (ltb k j) refl
     where
-      swapped : (k : ℕ) → R k → Q k ⊎ P k
-      swapped k r = ⊎-elim inr inl (of k r)
-
-      some : {n : ℕ} → (n ≡ 0 → ⊥) → 0 < n
-      some h = omega arith
-
-      go : (s : Bool) → eqb a 0 ≡ s → (t : Bool) → eqb b 0 ≡ t → (u : Bool) → ltb b a ≡ u
-          → LeastAbove R after (if s then b else if t then a else if u then b else a)
-      go true e t i u j = least-both b a swapped right q p (inl (eqb-true a 0 e))
-      go false e true i u j = least-both a b of left p q (inl (eqb-true b 0 i))
-      go false e false i true j = let l = ltb-true b a j in least-both b a swapped right q p (inr (some (eqb-false b 0 i), omega arith))
-      go false e false i false j = least-both a b of left p q (inr (some (eqb-false a 0 e), ltb-false b a j))
+      go : (t : Bool) → ltb k j ≡ t → LeastAbove R after (if t then Key k else Key j)
+      go true e = let l = ltb-true k j e in least-first after (swapped of) right k j (omega arith) q p
+      go false e = least-first after of left j k (ltb-false k j e) p q
 
 -- ---- in the sets before set i
 
 module _ (s : Sheet) (lost : List ℕ) (i : ℕ) where
-  pub wider : (k : ℕ) → InsertsIn s lost i k → InsertsIn s lost (i + 1) k
+  wider : (k : ℕ) → InsertsIn s lost i k → InsertsIn s lost (i + 1) k
   wider k p = let h = p .within in record { number = p .number; within = omega arith; committed = p .committed; inserts = p .inserts }
 
-  pub here : getD lost i 0 ≡ 0 → (k : ℕ) → Inserts (setAt s i) k → InsertsIn s lost (i + 1) k
+  here : noneAt lost i ≡ true → (k : ℕ) → Inserts (setAt s i) k → InsertsIn s lost (i + 1) k
   here z k p = record { number = i; within = omega arith; committed = z; inserts = p }
 
-  pub split : (k : ℕ) → InsertsIn s lost (i + 1) k → InsertsIn s lost i k ⊎ ((getD lost i 0 ≡ 0) × Inserts (setAt s i) k)
+  split : (k : ℕ) → InsertsIn s lost (i + 1) k → InsertsIn s lost i k ⊎ ((noneAt lost i ≡ true) × Inserts (setAt s i) k)
   split k p =
       let h = p .within in
       elim (tri (p .number) i) [
         | less l ↦ inl (record { number = p .number; within = l; committed = p .committed; inserts = p .inserts })
-        | equal l ↦ inr (ap (λ (n : ℕ). getD lost n 0) (sym l) ∙ p .committed, rw l at (p .inserts))
+        | equal l ↦ inr (ap (noneAt lost) (sym l) ∙ p .committed, rw l at (p .inserts))
         | more l ↦ absurd (omega arith)
       ]
 
   module _ (after : ℕ) where
-    pub inserts-more : (a b : ℕ) → getD lost i 0 ≡ 0 → LeastAbove (InsertsIn s lost i) after a → LeastAbove (Inserts (setAt s i)) after b
+    pub inserts-more : (a b : FirstKey) → noneAt lost i ≡ true → LeastAbove (InsertsIn s lost i) after a → LeastAbove (Inserts (setAt s i)) after b
         → LeastAbove (InsertsIn s lost (i + 1)) after (smaller a b)
-    inserts-more a b z p q = smaller-least (λ k r. ⊎-elim inl (λ x. inr (x .1)) (split k r)) wider (here z) a b p q
+    inserts-more a b z p q = smaller-least after (λ k r. ⊎-elim inl (λ x. inr (x .1)) (split k r)) wider (here z) a b p q
 
-    pub inserts-same : (a : ℕ) → (getD lost i 0 ≡ 0 → ⊥) → LeastAbove (InsertsIn s lost i) after a → LeastAbove (InsertsIn s lost (i + 1)) after a
-    inserts-same a z p =
-        record {
-          found = λ n. let f = p .found n in (f .0, wider a (f .1));
-          least = λ k h r. ⊎-elim (λ x. p .least k h x) (λ x. absurd (z (x .0))) (split k r);
-        }
+    pub inserts-same : (a : FirstKey) → noneAt lost i ≡ false → LeastAbove (InsertsIn s lost i) after a → LeastAbove (InsertsIn s lost (i + 1)) after a
+    inserts-same a z p = least-alone after split wider a p (λ k h x. clash (x .0) z)
 
-pub inserts-none : (s : Sheet) (lost : List ℕ) (after : ℕ) → LeastAbove (InsertsIn s lost 0) after 0
-inserts-none s lost after = record { found = λ n. absurd (n refl); least = λ k h r. let l = r .within in absurd (omega arith) }
+pub inserts-none : (s : Sheet) (lost : List ℕ) (after : ℕ) → LeastAbove (InsertsIn s lost 0) after None
+inserts-none s lost after k h r = let l = r .within in omega arith

@@ -1,47 +1,44 @@
 -- Who leads among the sets before set i: no set that claims the key, or one that precedes every other; after the last set, the winner.
 use Prim.Native.Nat.{ℕ, _+_, _≤_, _<_}
-use mathlib.Core.Path.{_≡_, refl, sym, _∙_, ap}
+use mathlib.Core.Path.{_≡_, refl, sym, _∙_, ap, ap₂}
 use mathlib.Core.Logic.{_⊎_, inl, inr, ⊎-elim}
-use mathlib.Core.Bool.{Bool, true, false}
-use mathlib.Core.List.{List}
-use mathlib.Core.Option.{none, some}
+use mathlib.Core.Bool.{Bool, true, false, not}
+use mathlib.Core.List.{List, [], _∷_}
+use mathlib.Core.Option.{Option, none, some}
 use native.Mathlib.Omega.{arith}
 use native.Mathlib.Decide.{ℕ-discrete}
 use borrow.Author.Count.{below-more}
-use borrow.Author.Tests.{eq-eqb, ne-eqb, ltb-true, lt-ltb, le-ltb, lt-leb}
-use lib.ListN.{length, getD}
-use lib.Dec.{ltb}
+use borrow.Author.Tests.{not-true}
+use lib.ListN.{length}
+use lib.Dec.{eqb}
 use Rattle.rules.specs.declared.mark.Mark.{Mark}
-use Rattle.rules.specs.Lists.{_and_, _or_, if_then_else_}
+use Rattle.rules.specs.declared.row.Record.{Record}
+use Rattle.rules.specs.Lists.{_and_, _or_, if_then_else_, any, first}
 use Rattle.rules.specs.Numbers.{precedes}
 use Rattle.rules.specs.Register.{Register}
 use Rattle.rules.specs.Sheet.{WriteSet, Sheet, csnOf, soundSheet}
-use Rattle.rules.specs.Closing.{names, markIn, winner, isSet, wins}
-use Rattle.laws.specs.Says.{Says, is-eq, is-le, itself, _also_, _or-else_, no-of, clash}
-use Rattle.laws.specs.Precedence.{transitive, total}
+use Rattle.rules.specs.Closing.{fitRecord, fit, firstWrong, names, markIn, winner, isSet, wins, appliedTo}
+use Rattle.laws.specs.Tests.{left, right, both, not-true-false}
+use Rattle.laws.specs.ListLaws.{first→}
+use Rattle.laws.specs.Says.{clash}
+use Rattle.laws.specs.Commits.{fit-record, no-wrong-fit}
+use Rattle.laws.specs.Precedence.{transitive, total, earlier-first, earlier-second}
 use Rattle.laws.specs.Distinct.{sheet-sorted, tri, less, more, equal}
-use Rattle.laws.specs.Winners.{sheet-apart, Claims, winner-is, winner-none, →wins}
-use Rattle.laws.specs.Commits.{set-records, names-own, names→}
-use Rattle.sheets.specs.SheetReadings.{setAt, noSet, recordAt}
-use Rattle.judging.specs.Judged.{wrongKey, Tells, numbered, Placed, isAhead}
+use Rattle.laws.specs.Winners.{sheet-apart, Claims, winner-is, winner-none}
 use Rattle.laws.specs.Places.{rising-at}
-use Rattle.sheets.specs.SheetMembers.{set-in, set-number, record-in, record-number}
-use Rattle.judging.specs.FitLaws.{zero-fits, fits-zero}
-
--- ---- a set names a key where a record of it is placed
-
-pub placed-names : (w : WriteSet) (key r : ℕ) → Placed w key r → r < length w.records → names w key ≡ true
-placed-names w key r p h = ap (names w) (sym (p .found h)) ∙ names-own w (recordAt w r) (record-in w r h)
-
-pub placed-not : (w : WriteSet) (key r : ℕ) → Placed w key r → length w.records ≤ r → names w key ≡ true → ⊥
-placed-not w key r p h e =
-    let n = names→ w key e in
-    let k = record-number w (n .1) in
-    p .before (k .0) (omega (arith, k .1)) (ap (λ (q : _). q .key) (k .2) ∙ n .2)
+use Rattle.sheets.specs.SheetReadings.{setAt, noSet}
+use Rattle.sheets.specs.SheetMembers.{set-in, set-number}
+use Rattle.judging.specs.declared.lead.Winner.{Winner}
+use Rattle.judging.specs.declared.lead.Winner.the-variants.{By, Nobody}
+use Rattle.judging.specs.declared.recorded.Recorded.{Recorded}
+use Rattle.judging.specs.declared.recorded.Recorded.the-variants.{As, Nowhere}
+use Rattle.judging.specs.Answers.{firstKey, recorded, winnerOf, earlierOf, wonBy}
+use Rattle.judging.specs.Tables.{isNone, noneAt, claimsBy, wrongKey, Tells}
+use Rattle.judging.specs.TableLaws.{wrong-told}
 
 -- ---- no two sets of a sound sheet have one commit number
 
-pub csn-one : (s : Sheet) (i j : ℕ) → soundSheet s ≡ true → i < length s.sets → j < length s.sets → setAt s i .csn ≡ setAt s j .csn → i ≡ j
+csn-one : (s : Sheet) (i j : ℕ) → soundSheet s ≡ true → i < length s.sets → j < length s.sets → setAt s i .csn ≡ setAt s j .csn → i ≡ j
 unfolding setAt
 csn-one s i j e h k c =
     let r = sheet-sorted s e in
@@ -51,117 +48,136 @@ csn-one s i j e h k c =
       | more l ↦ let a = rising-at csnOf noSet r j i l h in absurd (omega arith)
     ]
 
+-- ---- a set of no wrong key is fit
+
+none-wrong : (g : Register) (w : WriteSet) → isNone (wrongKey g w) ≡ fit g w
+unfolding wrongKey firstKey firstWrong
+none-wrong g w = go (firstWrong g w) refl
+  where
+    go : (o : Option Record) → firstWrong g w ≡ o → isNone (firstKey o) ≡ fit g w
+    go none p = sym (no-wrong-fit g w p)
+    go (some r) p =
+        let f = first→ (λ r. not (fitRecord g r)) w.records p in
+        sym (not-true-false (λ e. clash (fit-record g w e r (f .0)) (not-true _ (f .1))))
+
+fit-told : (g : Register) (s : Sheet) (wrong : List ℕ) → soundSheet s ≡ true → Tells (wrongKey g) s wrong → (i : ℕ) → i < length s.sets → noneAt wrong i ≡ fit g (setAt s i)
+unfolding noneAt
+fit-told g s wrong sound t i h = ap isNone (wrong-told g s wrong sound t i h) ∙ none-wrong g (setAt s i)
+
+-- ---- who claims a key
+
+-- a record was found
+abbrev isRecorded : Recorded → Bool
+isRecorded (As r) = true
+isRecorded Nowhere = false
+
+named : (rs : List Record) (key : ℕ) → isRecorded (recorded (first (λ r. eqb r.key key) rs)) ≡ any (λ r. eqb r.key key) rs
+unfolding recorded first any _or_
+named [] key = refl
+named (x ∷ xs) key = go (eqb x.key key) (named xs key)
+  where
+    p : Record → Bool
+    p r = eqb r.key key
+
+    go : (t : Bool) → isRecorded (recorded (first p xs)) ≡ any p xs → isRecorded (recorded (if t then some x else first p xs)) ≡ (t or any p xs)
+    go true e = refl
+    go false e = e
+
+module _ (s : Sheet) (wrong : List ℕ) (i key : ℕ) where
+  pub unfit-not : noneAt wrong i ≡ false → false ≡ claimsBy s wrong i key
+  unfolding claimsBy _and_
+  unfit-not e = sym (ap (λ (b : Bool). b and names (setAt s i) key) e)
+
+  pub fit-claims : {r : Recorded} → noneAt wrong i ≡ true → r ≡ recorded (appliedTo (setAt s i .records) key) → isRecorded r ≡ claimsBy s wrong i key
+  unfolding claimsBy _and_ names appliedTo
+  fit-claims e f = ap isRecorded f ∙ named (setAt s i .records) key ∙ sym (ap (λ (b : Bool). b and names (setAt s i) key) e)
+
 -- ---- who leads
 
 module _ (s : Sheet) (wrong : List ℕ) (key : ℕ) where
-  -- the table says that set u is fit, and it names the key
-  pub record Claim (u : ℕ) : Type 0 where
-    pub is-fit : getD wrong u 0 ≡ 0
-    pub named : names (setAt s u) key ≡ true
+  -- by the table set u claims the key
+  abbrev pub Claim : ℕ → Type 0
+  Claim u = claimsBy s wrong u key ≡ true
 
-  -- set u's mark precedes set v's
-  abbrev pub Ahead : ℕ → ℕ → Type 0
-  Ahead u v = precedes (markIn s (setAt s u)) (markIn s (setAt s v)) ≡ true
+  -- the mark that set u gives
+  abbrev mark : ℕ → Mark
+  mark u = markIn s (setAt s u)
+
+  -- set u is ahead of the others before set i that claim the key
+  abbrev Leads : ℕ → ℕ → Type 0
+  Leads i u = (v : ℕ) → v < i → Claim v → (v ≡ u) ⊎ (precedes (mark u) (mark v) ≡ true)
 
   -- among the sets before set i
-  pub data Lead (i lead : ℕ) : Type 0 where
-    nobody : length s.sets ≤ lead → ((u : ℕ) → u < i → Claim u → ⊥) → Lead i lead
-    leads : lead < length s.sets → Claim lead → ((u : ℕ) → u < i → Claim u → (u ≡ lead) ⊎ Ahead lead u) → Lead i lead
+  pub data Lead (i : ℕ) (lead : Winner) : Type 0 where
+    nobody : lead ≡ Nobody → ((u : ℕ) → u < i → Claim u → ⊥) → Lead i lead
+    leads : (u : ℕ) → u < length s.sets → lead ≡ By (mark u) → Claim u → Leads i u → Lead i lead
 
-  pub ahead-says : (i lead : ℕ) → Says (isAhead s wrong key i lead)
-      ((getD wrong i 0 ≡ 0) × ((names (setAt s i) key ≡ true) × ((length s.sets ≤ lead) ⊎ Ahead i lead)))
-  unfolding isAhead
-  ahead-says i lead = is-eq _ _ also itself _ also (is-le (length s.sets) lead or-else itself _)
+  pub lead-start : Lead 0 Nobody
+  lead-start = nobody refl (λ u h. absurd (omega arith))
 
-  -- a set that was found wrong claims nothing
-  pub wrong-not : (i lead : ℕ) → (getD wrong i 0 ≡ 0 → ⊥) → false ≡ isAhead s wrong key i lead
-  wrong-not i lead n = no-of (ahead-says i lead) (λ h. n (h .0))
+  pub lead-same : (i : ℕ) (lead : Winner) → Lead i lead → (Claim i → ⊥) → Lead (i + 1) lead
+  lead-same i lead (nobody e f) n = nobody e (below-more _ i f n)
+  lead-same i lead (leads u h e c f) n = leads u h e c (below-more _ i f (λ d. absurd (n d)))
 
-  -- against a set that leads, precedence decides
-  pub ahead-by : (i lead : ℕ) → getD wrong i 0 ≡ 0 → names (setAt s i) key ≡ true → lead < length s.sets
-      → isAhead s wrong key i lead ≡ precedes (markIn s (setAt s i)) (markIn s (setAt s lead))
-  unfolding isAhead _and_ _or_
-  ahead-by i lead f n h = rw (eq-eqb _ _ f, n, lt-leb (length s.sets) lead h)
-
-  pub lead-start : Lead 0 (length s.sets)
-  lead-start = nobody (omega arith) (λ u h. absurd (omega arith))
-
-  pub lead-new : (i lead : ℕ) → i < length s.sets → Lead i lead → isAhead s wrong key i lead ≡ true → Lead (i + 1) i
-  lead-new i lead h l e =
-      let a = ahead-says i lead .told e in
-      leads h (record { is-fit = a .0; named = a .1 .0 }) (go l (a .1 .1))
+  -- THE EARLIER OF TWO MARKS LEADS
+  pub lead-more : (i : ℕ) (lead : Winner) → soundSheet s ≡ true → i < length s.sets → Lead i lead → Claim i → Lead (i + 1) (earlierOf lead (mark i))
+  lead-more i lead sound h (nobody e f) c =
+      leads i h (ap (λ (l : Winner). earlierOf l (mark i)) e) c (below-more _ i (λ v k d. absurd (f v k d)) (λ d. inl refl))
+  lead-more i lead sound h (leads u k e d f) c = go (precedes (mark i) (mark u)) refl
     where
-      go : Lead i lead → (length s.sets ≤ lead) ⊎ Ahead i lead → (u : ℕ) → u < i + 1 → Claim u → (u ≡ i) ⊎ Ahead i u
-      go (nobody n f) d = below-more _ i (λ u k c. absurd (f u k c)) (λ c. inl refl)
-      go (leads n c f) d =
-          let p : Ahead i lead = ⊎-elim (λ (b : length s.sets ≤ lead). absurd (omega arith)) (λ b. b) d in
-          below-more _ i
-          (λ u k b. inr (⊎-elim (λ q. ap (λ (v : ℕ). precedes (markIn s (setAt s i)) (markIn s (setAt s v))) q ∙ p) (λ q. transitive _ _ _ p q) (f u k b)))
-          (λ b. inl refl)
-
-  pub lead-same : (i lead : ℕ) → soundSheet s ≡ true → i < length s.sets → Lead i lead → isAhead s wrong key i lead ≡ false → Lead (i + 1) lead
-  lead-same i lead sound h (nobody n f) e =
-      nobody n (below-more _ i f (λ c. clash (ahead-says i lead .test (c .is-fit, (c .named, inl n))) e))
-  lead-same i lead sound h (leads n c f) e =
-      leads n c (below-more _ i f (λ d. after d))
-    where
-      after : Claim i → (i ≡ lead) ⊎ Ahead lead i
-      after d =
-          elim (ℕ-discrete i lead) [
+      after : precedes (mark i) (mark u) ≡ false → (i ≡ u) ⊎ (precedes (mark u) (mark i) ≡ true)
+      after p =
+          elim (ℕ-discrete i u) [
             | yes q ↦ inl q
-            | no q ↦ inr (total _ _ (λ m. q (csn-one s i lead sound h n (ap (λ (x : Mark). x.csn) m))) (sym (ahead-by i lead (d .is-fit) (d .named) n) ∙ e))
+            | no q ↦ inr (total _ _ (λ m. q (csn-one s i u sound h k (ap (λ (x : Mark). x.csn) m))) p)
           ]
+
+      go : (t : Bool) → precedes (mark i) (mark u) ≡ t → Lead (i + 1) (earlierOf lead (mark i))
+      go true p =
+          leads i h (ap (λ (l : Winner). earlierOf l (mark i)) e ∙ ap By (earlier-second (mark u) (mark i) p)) c
+          (below-more _ i
+          (λ v l b. inr (⊎-elim (λ q. ap (λ (x : ℕ). precedes (mark i) (mark x)) q ∙ p) (λ q. transitive _ _ _ p q) (f v l b)))
+          (λ b. inl refl))
+      go false p =
+          leads u k (ap (λ (l : Winner). earlierOf l (mark i)) e ∙ ap By (earlier-first (mark u) (mark i) p)) d
+          (below-more _ i f (λ b. after p))
 
   module _ (sound : soundSheet s ≡ true) (g : Register) (t : Tells (wrongKey g) s wrong) where
     -- what the table says of a set is so
     claim→ : (u : ℕ) → u < length s.sets → Claim u → Claims g s key (setAt s u)
-    claim→ u h c =
-        let m = set-in s u h in
-        record { in-sheet = m; is-fit = zero-fits g (setAt s u) (set-records s (setAt s u) sound m) (sym (t u h) ∙ c .is-fit); named = c .named }
+    unfolding claimsBy
+    claim→ u h c = record { in-sheet = set-in s u h; is-fit = sym (fit-told g s wrong sound t u h) ∙ left _ _ c; named = right _ _ c }
 
-    →claim : (w : WriteSet) → Claims g s key w → (u : ℕ) × (u < length s.sets) × (setAt s u ≡ w) × Claim u
-    →claim w c =
-        let u = set-number s (c .in-sheet) in (
-          u .0,
-          u .1,
-          u .2,
-          record {
-            is-fit = t (u .0) (u .1) ∙ ap (wrongKey g) (u .2) ∙ fits-zero g w (c .is-fit);
-            named = ap (λ (v : WriteSet). names v key) (u .2) ∙ c .named;
-          },
-        )
+    →claim : (u : ℕ) → u < length s.sets → Claims g s key (setAt s u) → Claim u
+    unfolding claimsBy
+    →claim u h c = both (fit-told g s wrong sound t u h ∙ c .is-fit) (c .named)
 
     -- WHO LEADS ALL SETS WINS THE KEY
-    pub lead-wins : (i lead : ℕ) → length s.sets ≤ i → Lead i lead → winner g s key ≡ numbered s lead
-    unfolding numbered
-    lead-wins i lead h (nobody n f) =
-        let z : winner g s key ≡ none = winner-none g s key (sheet-apart s sound) (λ w c. let u = →claim w c in let k = u .1 in f (u .0) (omega arith) (u .3)) in
-        z ∙ rw (le-ltb lead (length s.sets) n) refl
-    lead-wins i lead h (leads n c f) =
-        let z : winner g s key ≡ some (setAt s lead) =
-        winner-is g s key (setAt s lead) (sheet-apart s sound)
+    pub lead-wins : (i : ℕ) (lead : Winner) → length s.sets ≤ i → Lead i lead → lead ≡ winnerOf s (winner g s key)
+    unfolding winnerOf
+    lead-wins i lead h (nobody e f) =
+        e ∙ sym (ap (winnerOf s) (winner-none g s key (sheet-apart s sound) (λ w c.
+        let u = set-number s (c .in-sheet) in
+        let k = u .1 in
+        f (u .0) (omega arith) (→claim (u .0) (u .1) (rw (sym (u .2)) at c)))))
+    lead-wins i lead h (leads v n e c f) =
+        e ∙ sym (ap (winnerOf s) (winner-is g s key (setAt s v) (sheet-apart s sound)
         (record {
-          claimant = claim→ lead n c;
+          claimant = claim→ v n c;
           precedes-others = λ w d.
-              let u = →claim w d in
+              let u = set-number s (d .in-sheet) in
               let k = u .1 in
-              ⊎-elim (λ q. inl (sym (u .2) ∙ ap (setAt s) q)) (λ q. inr (rw (u .2) at q)) (f (u .0) (omega arith) (u .3));
-        }) in
-        z ∙ rw (lt-ltb lead (length s.sets) n) refl
+              ⊎-elim (λ q. inl (sym (u .2) ∙ ap (setAt s) q)) (λ q. inr (rw (u .2) at q)) (f (u .0) (omega arith) (→claim (u .0) (u .1) (rw (sym (u .2)) at d)));
+        })))
 
--- ---- whether set i is the winner, by its number
+-- ---- whether a set is the winner, by its csn
 
-module _ (s : Sheet) (sound : soundSheet s ≡ true) (i : ℕ) (h : i < length s.sets) where
-  pub won : (g : Register) (key r : ℕ) → winner g s key ≡ numbered s r → r ≡ i → wins g s (setAt s i) key ≡ true
-  unfolding numbered
-  won g key r e q =
-      let z : numbered s r ≡ some (setAt s i) = rw q (rw (lt-ltb i (length s.sets) h) refl) in
-      →wins g s key (setAt s i) (e ∙ z)
+won-by : (s : Sheet) (w : WriteSet) (o : Option WriteSet) → wonBy (winnerOf s o) w.csn ≡ isSet w o
+unfolding winnerOf isSet
+won-by s w none = refl
+won-by s w (some v) = refl
 
-  pub not-won : (g : Register) (key r : ℕ) → winner g s key ≡ numbered s r → (r ≡ i → ⊥) → wins g s (setAt s i) key ≡ false
-  unfolding numbered wins isSet
-  not-won g key r e n = ap (isSet (setAt s i)) e ∙ go (ltb r (length s.sets)) refl
-    where
-      go : (t : Bool) → ltb r (length s.sets) ≡ t → isSet (setAt s i) (if t then some (setAt s r) else none) ≡ false
-      go true k = ne-eqb _ _ (λ c. n (csn-one s r i sound (ltb-true r (length s.sets) k) h c))
-      go false k = refl
+pub won : (g : Register) (s : Sheet) (w : WriteSet) (r : Record) {key csn : ℕ} {lead : Winner}
+    → key ≡ r.key → csn ≡ w.csn → lead ≡ winnerOf s (winner g s key) → wonBy lead csn ≡ wins g s w r.key
+unfolding wins
+won g s w r {key} k c l = ap₂ wonBy l c ∙ won-by s w (winner g s key) ∙ ap (λ (n : ℕ). isSet w (winner g s n)) k

@@ -1,3 +1,4 @@
-pub mod AppliedLaws
-pub mod FitLaws
+pub mod Answers
 pub mod Judged
+pub mod TableLaws
+pub mod Tables

@@ -1,4 +1,5 @@
 // Whether a sheet is complete: every master of the roster has a notice, and as many sets as it says.
+use forms::MASTERS;
 use forms::in_roster;
 use forms::notice;
 use forms::set_count;
@@ -6,10 +7,10 @@ use forms::set_csn;
 use rules::NO_NOTICE;
 ghost use mathlib.Core.Path.{_≡_};
 ghost use mathlib.Core.Bool.{true};
-ghost use Prim.Native.Nat.{_≤_, _<_};
-ghost use lib.ListN.{length};
+ghost use Prim.Native.Nat.{_<_};
 ghost use Rattle.rules.specs.Sheet.{isSheet, sheetIn, setsOf};
 ghost use Rattle.rules.specs.Closing.{complete};
+ghost use Rattle.sheets.specs.SheetReadings.{masterCount};
 ghost use Rattle.judging.specs.Judged.{nothingOwed};
 
 // How many of the sheet's sets are master m's.
@@ -31,7 +32,7 @@ fn sets_by(sheet: &[u8], m: usize) -> usize
 
 // Whether master m is outside the roster, or has sent all its sets.
 fn owes_nothing(sheet: &[u8], m: usize) -> bool
-    requires { ⌜ (isSheet (now sheet) ≡ true) × (m < 16) ⌝ }
+    requires { ⌜ (isSheet (now sheet) ≡ true) × (m < masterCount) ⌝ }
     ensures { λ r. ⌜ r ≡ nothingOwed (sheetIn (now (sheet .entry))) m ⌝ }
 {
     if !in_roster(sheet, m as u32) {
@@ -52,7 +53,7 @@ pub fn complete(sheet: &[u8]) -> bool
     ensures { λ r. ⌜ r ≡ complete (sheetIn (now (sheet .entry))) ⌝ }
 {
     let mut m: usize = 0;
-    while m < 16 {
+    while m < MASTERS {
         if !owes_nothing(sheet, m) {
             return false;
         }

@@ -1,4 +1,6 @@
-// Which sets are fit: a table of the first key found wrong in each set, 0 for a fit one.
+// Which sets are fit: a table of the first key found wrong in each set.
+use crate::key::FirstKey;
+use crate::table::in_table;
 use forms::record;
 use forms::record_count;
 use forms::row_count;
@@ -10,19 +12,19 @@ ghost use mathlib.Core.Bool.{true};
 ghost use Prim.Native.Nat.{_<_};
 ghost use lib.ListN.{length};
 ghost use Rattle.rules.specs.Register.{isRegister, registerIn};
-ghost use Rattle.rules.specs.Sheet.{isSheet, sheetIn};
+ghost use Rattle.rules.specs.Sheet.{maxSets, isSheet, sheetIn};
 ghost use Rattle.sheets.specs.SheetReadings.{setAt};
-ghost use Rattle.judging.specs.Judged.{wrongKey, Tells};
+ghost use Rattle.judging.specs.Tables.{wrongKey, Tells};
 
-// The key of the first record of set i that the register does not bear; 0 where there is none. Keys ascend in both, so the rows that
-// are passed for one record are passed for all.
-fn wrong_key(register: &[u8], sheet: &[u8], i: usize) -> u32
+// The key of the first record of set i that the register does not bear. Keys ascend in both, so the rows that are passed for one
+// record are passed for all.
+fn wrong_key(register: &[u8], sheet: &[u8], i: usize) -> FirstKey
     requires { ⌜ (isRegister (now register) ≡ true) × (isSheet (now sheet) ≡ true) × (i < length (sheetIn (now sheet) .sets)) ⌝ }
     ensures { λ r. ⌜ r ≡ wrongKey (registerIn (now (register .entry))) (setAt (sheetIn (now (sheet .entry))) i) ⌝ }
 {
     let rows = row_count(register);
     let records = record_count(sheet, i);
-    let mut wrong: u32 = 0;
+    let mut wrong = FirstKey::None;
     let mut at: usize = 0;
     let mut j: usize = 0;
     'records: while j < records {
@@ -37,7 +39,7 @@ fn wrong_key(register: &[u8], sheet: &[u8], i: usize) -> u32
             }
             if key == row {
                 if kind == Record::INSERT {
-                    wrong = key;
+                    wrong = FirstKey::Key(key);
                     break 'records;
                 }
                 present = true;
@@ -47,7 +49,7 @@ fn wrong_key(register: &[u8], sheet: &[u8], i: usize) -> u32
         }
         if !present {
             if kind != Record::INSERT {
-                wrong = key;
+                wrong = FirstKey::Key(key);
                 break 'records;
             }
         }
@@ -56,15 +58,15 @@ fn wrong_key(register: &[u8], sheet: &[u8], i: usize) -> u32
     wrong
 }
 
-// The table, a place for each set.
+// The table of wrong keys.
 pub fn find_wrong(register: &[u8], sheet: &[u8], wrong: &mut [u32])
-    requires { ⌜ (isRegister (now register) ≡ true) × (isSheet (now sheet) ≡ true) × (length (now wrong) ≡ 64) ⌝ }
-    ensures { λ _. ⌜ (length (now (wrong .exit)) ≡ 64) × Tells (wrongKey (registerIn (now (register .entry)))) (sheetIn (now (sheet .entry))) (now (wrong .exit)) ⌝ }
+    requires { ⌜ (isRegister (now register) ≡ true) × (isSheet (now sheet) ≡ true) × (length (now wrong) ≡ maxSets) ⌝ }
+    ensures { λ _. ⌜ (length (now (wrong .exit)) ≡ maxSets) × Tells (wrongKey (registerIn (now (register .entry)))) (sheetIn (now (sheet .entry))) (now (wrong .exit)) ⌝ }
 {
     let n = set_count(sheet);
     let mut i: usize = 0;
     while i < n {
-        wrong[i] = wrong_key(register, sheet, i);
+        wrong[i] = in_table(wrong_key(register, sheet, i));
         i += 1;
     }
 }

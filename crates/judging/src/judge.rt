@@ -1,4 +1,11 @@
 // Who wins a key, and the first key that each set loses. All claims of fit sets count, also of those that lose elsewhere.
+use crate::key::FirstKey;
+use crate::lead::Winner;
+use crate::lead::earlier_of;
+use crate::recorded::Recorded;
+use crate::recorded::record_of;
+use crate::table::in_table;
+use crate::table::none_at;
 use forms::epoch;
 use forms::record_count;
 use forms::record_key;
@@ -8,98 +15,91 @@ use forms::set_sen;
 use rules::Mark;
 ghost use mathlib.Core.Path.{_≡_};
 ghost use mathlib.Core.Bool.{true};
-ghost use Prim.Native.Nat.{_≤_, _<_};
+ghost use Prim.Native.Nat.{_<_};
 ghost use lib.ListN.{length};
 ghost use Rattle.rules.specs.Register.{Register};
-ghost use Rattle.rules.specs.Sheet.{isSheet, sheetIn};
+ghost use Rattle.rules.specs.Sheet.{maxSets, isSheet, sheetIn};
 ghost use Rattle.rules.specs.Closing.{winner, markIn};
 ghost use Rattle.sheets.specs.SheetReadings.{setAt};
-ghost use Rattle.judging.specs.Judged.{wrongKey, lostKey, Tells, numbered, Placed, isAhead};
-
-// Where set i names the key: the number of the record, or the count of records where none does.
-pub fn place_of(sheet: &[u8], i: usize, key: u32) -> usize
-    requires { ⌜ (isSheet (now sheet) ≡ true) × (i < length (sheetIn (now sheet) .sets)) ⌝ }
-    ensures { λ r. ⌜ Placed (setAt (sheetIn (now (sheet .entry))) i) key r ⌝ }
-{
-    let n = record_count(sheet, i);
-    let mut j: usize = 0;
-    while j < n {
-        if record_key(sheet, i, j) == key {
-            return j;
-        }
-        j += 1;
-    }
-    n
-}
+ghost use Rattle.judging.specs.Answers.{winnerOf, wonBy};
+ghost use Rattle.judging.specs.Tables.{claimsBy, wrongKey, lostKey, Tells};
 
 // The mark that set i gives.
-pub fn mark_of(sheet: &[u8], i: usize) -> Mark
+fn mark_of(sheet: &[u8], i: usize) -> Mark
     requires { ⌜ (isSheet (now sheet) ≡ true) × (i < length (sheetIn (now sheet) .sets)) ⌝ }
     ensures { λ r. ⌜ r ≡ markIn (sheetIn (now (sheet .entry))) (setAt (sheetIn (now (sheet .entry))) i) ⌝ }
 {
     Mark::new(epoch(sheet), set_sen(sheet, i), set_csn(sheet, i))
 }
 
-// Whether set i claims the key, ahead of the set that leads so far; where none leads, `lead` is the count of sets.
-fn is_ahead(sheet: &[u8], wrong: &[u32], key: u32, i: usize, lead: usize) -> bool
-    requires { ⌜ (isSheet (now sheet) ≡ true) × (length (now wrong) ≡ 64) × (i < length (sheetIn (now sheet) .sets)) ⌝ }
-    ensures { λ r. ⌜ r ≡ isAhead (sheetIn (now (sheet .entry))) (now (wrong .entry)) key i lead ⌝ }
+// Whether set i claims the key: it is fit, and names it.
+fn claims(sheet: &[u8], wrong: &[u32], i: usize, key: u32) -> bool
+    requires { ⌜ (isSheet (now sheet) ≡ true) × (length (now wrong) ≡ maxSets) × (i < length (sheetIn (now sheet) .sets)) ⌝ }
+    ensures { λ r. ⌜ r ≡ claimsBy (sheetIn (now (sheet .entry))) (now (wrong .entry)) i key ⌝ }
 {
-    if wrong[i] != 0 {
+    if !none_at(wrong, i) {
         return false;
     }
-    if place_of(sheet, i, key) == record_count(sheet, i) {
-        return false;
+    match record_of(sheet, i, key) {
+        Recorded::As(_) => true,
+        Recorded::Nowhere => false,
     }
-    if set_count(sheet) <= lead {
-        return true;
-    }
-    mark_of(sheet, i).precedes(mark_of(sheet, lead))
 }
 
-// The number of the set that wins the key, or the count of sets where no fit set claims it.
-pub fn winner(sheet: &[u8], wrong: &[u32], key: u32) -> usize
-    requires { ⌜ (isSheet (now sheet) ≡ true) × (length (now wrong) ≡ 64) ⌝ }
-    ensures { λ r. ⌜ ((g : Register) → Tells (wrongKey g) (sheetIn (now (sheet .entry))) (now (wrong .entry)) → winner g (sheetIn (now (sheet .entry))) key ≡ numbered (sheetIn (now (sheet .entry))) r) ⌝ }
+// The mark of the set that wins the key, if a fit set claims it.
+pub fn winner(sheet: &[u8], wrong: &[u32], key: u32) -> Winner
+    requires { ⌜ (isSheet (now sheet) ≡ true) × (length (now wrong) ≡ maxSets) ⌝ }
+    ensures { λ r. ⌜ ((g : Register) → Tells (wrongKey g) (sheetIn (now (sheet .entry))) (now (wrong .entry)) → r ≡ winnerOf (sheetIn (now (sheet .entry))) (winner g (sheetIn (now (sheet .entry))) key)) ⌝ }
 {
     let n = set_count(sheet);
-    let mut lead = n;
+    let mut lead = Winner::Nobody;
     let mut i: usize = 0;
     while i < n {
-        if is_ahead(sheet, wrong, key, i, lead) {
-            lead = i;
+        if claims(sheet, wrong, i, key) {
+            lead = earlier_of(lead, mark_of(sheet, i));
         }
         i += 1;
     }
     lead
 }
 
-// The first key of set i that it does not win; 0 where it wins them all.
-fn lost_key(sheet: &[u8], wrong: &[u32], i: usize) -> u32
-    requires { ⌜ (isSheet (now sheet) ≡ true) × (length (now wrong) ≡ 64) × (i < length (sheetIn (now sheet) .sets)) ⌝ }
+// Whether the winner is the set of this csn: no two sets of a sheet share one.
+fn won_by(winner: Winner, csn: u64) -> bool
+    ensures { λ r. ⌜ r ≡ wonBy winner csn ⌝ }
+{
+    match winner {
+        Winner::By(mark) => mark.csn == csn,
+        Winner::Nobody => false,
+    }
+}
+
+// The first key of set i that it does not win.
+fn lost_key(sheet: &[u8], wrong: &[u32], i: usize) -> FirstKey
+    requires { ⌜ (isSheet (now sheet) ≡ true) × (length (now wrong) ≡ maxSets) × (i < length (sheetIn (now sheet) .sets)) ⌝ }
     ensures { λ r. ⌜ ((g : Register) → Tells (wrongKey g) (sheetIn (now (sheet .entry))) (now (wrong .entry)) → r ≡ lostKey g (sheetIn (now (sheet .entry))) (setAt (sheetIn (now (sheet .entry))) i)) ⌝ }
 {
     let n = record_count(sheet, i);
+    let csn = set_csn(sheet, i);
     let mut j: usize = 0;
     while j < n {
         let key = record_key(sheet, i, j);
-        if winner(sheet, wrong, key) != i {
-            return key;
+        if !won_by(winner(sheet, wrong, key), csn) {
+            return FirstKey::Key(key);
         }
         j += 1;
     }
-    0
+    FirstKey::None
 }
 
-// The table, a place for each set. An unfit set wins nothing, so its place is not 0 either: just those that commit have 0.
+// The table of lost keys. An unfit set wins nothing, so just those that commit have none.
 pub fn find_lost(sheet: &[u8], wrong: &[u32], lost: &mut [u32])
-    requires { ⌜ (isSheet (now sheet) ≡ true) × (length (now wrong) ≡ 64) × (length (now lost) ≡ 64) ⌝ }
-    ensures { λ _. ⌜ (length (now (lost .exit)) ≡ 64) × ((g : Register) → Tells (wrongKey g) (sheetIn (now (sheet .entry))) (now (wrong .entry)) → Tells (lostKey g (sheetIn (now (sheet .entry)))) (sheetIn (now (sheet .entry))) (now (lost .exit))) ⌝ }
+    requires { ⌜ (isSheet (now sheet) ≡ true) × (length (now wrong) ≡ maxSets) × (length (now lost) ≡ maxSets) ⌝ }
+    ensures { λ _. ⌜ (length (now (lost .exit)) ≡ maxSets) × ((g : Register) → Tells (wrongKey g) (sheetIn (now (sheet .entry))) (now (wrong .entry)) → Tells (lostKey g (sheetIn (now (sheet .entry)))) (sheetIn (now (sheet .entry))) (now (lost .exit))) ⌝ }
 {
     let n = set_count(sheet);
     let mut i: usize = 0;
     while i < n {
-        lost[i] = lost_key(sheet, wrong, i);
+        lost[i] = in_table(lost_key(sheet, wrong, i));
         i += 1;
     }
 }

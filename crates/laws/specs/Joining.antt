@@ -3,7 +3,7 @@ use Prim.Native.Nat.{ℕ, min, _<_, _≤_}
 use mathlib.Core.Path.{_≡_, refl, sym, _∙_, ap, ap₂}
 use mathlib.Core.Logic.{_⊎_, inl, inr, ⊎-elim}
 use mathlib.Core.Bool.{Bool, true, false, not}
-use mathlib.Core.List.{List, [], _∷_, _++_, map, append-assoc, append-nil, List·Memᴰ, List·Memᴰ·head, List·Memᴰ·tail, List·Memᴰ·not-nil, List·Memᴰ·append-cases, List·Memᴰ·eq-of-singleton, Memᴰ·append-left, Memᴰ·append-right, Memᴰ·of-map}
+use mathlib.Core.List.{List, [], _∷_, _++_, map, append-nil, List·Memᴰ, List·Memᴰ·head, List·Memᴰ·tail, List·Memᴰ·not-nil, List·Memᴰ·append-cases, List·Memᴰ·eq-of-singleton, Memᴰ·append-left, Memᴰ·append-right, Memᴰ·of-map}
 use native.Mathlib.Omega.{arith}
 use native.Mathlib.Decide.{ℕ-discrete}
 use borrow.Author.Tests.{leb-true, eqb-true, eqb-false, eq-eqb, ne-eqb, not-true}
@@ -13,7 +13,7 @@ use Rattle.rules.specs.Lists.{_and_, _or_, if_then_else_, any, flat}
 use Rattle.rules.specs.Sheet.{WriteSet, Sheet, noNotice, maxSets, masters, inRoster, setsOf, allows, soundSet, soundNotice, soundSheet}
 use Rattle.rules.specs.Gathering.{Notice, aSet, aNotice, setIn, noticeIn, setsAmong, noticesAmong, someTwo, clash, differ, distinct, noticeOf, sharedCsn, twoNotices, tooMany, overNotice, spoils, soundOf, spoiledSheet, holding, gathered, noticed, offersOf, joined}
 use Rattle.laws.specs.Tests.{left, right, both, or→, same-tests}
-use Rattle.laws.specs.ListLaws.{any→, →any, all→, flat→, →flat, upFrom→, →upFrom}
+use Rattle.laws.specs.ListLaws.{any→, →any, all→, flat→, →flat, upFrom→, →upFrom, flat-append}
 use Rattle.laws.specs.SheetLaws.{soundSheet→}
 use Rattle.laws.specs.Distinct.{someTwo-in}
 use Rattle.laws.specs.Notices.{noticeBy, notice-cap, notice-le, notice-in, notice-if, notice-else}
@@ -53,11 +53,6 @@ joinHeld a b = soundOf a.epoch a.roster (map (noticeTogether a b) masters) (toge
 -- ---- lists
 
 module _ {A B : Type 0} where
-  flat-append : (f : A → List B) (xs ys : List A) → flat f (xs ++ ys) ≡ flat f xs ++ flat f ys
-  unfolding flat
-  flat-append f [] ys = refl
-  flat-append f (x ∷ xs) ys = ap (λ (l : List B). f x ++ l) (flat-append f xs ys) ∙ sym (append-assoc (f x) (flat f xs) (flat f ys))
-
   map-same : (f g : A → B) (xs : List A) → ((x : A) → List·Memᴰ x xs → f x ≡ g x) → map f xs ≡ map g xs
   map-same f g [] h = refl
   map-same f g (x ∷ xs) h = ap₂ _∷_ (h x (List·Memᴰ·head refl)) (map-same f g xs (λ y m. h y (List·Memᴰ·tail m)))

@@ -40,5 +40,4 @@ pub mod WrongClosers
 pub mod ClosingWrites
 pub mod FirstFailing
 pub mod BytesHere
-pub mod Loops
 pub mod Places

@@ -3,7 +3,7 @@ use Prim.Native.Nat.{ℕ, zero, suc, _+_, _<_, _≤_}
 use mathlib.Core.Path.{_≡_, refl, sym, _∙_, ap}
 use mathlib.Core.Logic.{⊎-elim}
 use mathlib.Core.Bool.{Bool, true, false, false≢true}
-use mathlib.Core.List.{List, [], _∷_, _++_, map, List·Memᴰ, List·Memᴰ·head, List·Memᴰ·tail, List·Memᴰ·not-nil, List·Memᴰ·cases-cons, List·Memᴰ·append-cases, Memᴰ·append-left, Memᴰ·append-right}
+use mathlib.Core.List.{List, [], _∷_, _++_, map, List·Memᴰ, List·Memᴰ·head, List·Memᴰ·tail, List·Memᴰ·not-nil, List·Memᴰ·cases-cons, List·Memᴰ·append-cases, Memᴰ·append-left, Memᴰ·append-right, append-assoc, append-nil}
 use mathlib.Core.Option.{none, some, Option·some-injective, Option·none-ne-some}
 use native.Mathlib.Omega.{arith}
 use native.Mathlib.Decide.{ℕ-discrete}
@@ -98,6 +98,17 @@ module _ {A B : Type 0} (f : A → List B) where
   unfolding flat
   →flat {y} (List·Memᴰ·head {x = z} {xs = zs} e) k = Memᴰ·append-left (flat f zs) (rw e at k)
   →flat (List·Memᴰ·tail {x = z} {xs = zs} m) k = Memᴰ·append-right (f z) (→flat m k)
+
+-- what is made of two lists stands one after the other, and what is made of one element more stands last
+module _ {A B : Type 0} where
+  pub flat-append : (f : A → List B) (xs ys : List A) → flat f (xs ++ ys) ≡ flat f xs ++ flat f ys
+  unfolding flat
+  flat-append f [] ys = refl
+  flat-append f (x ∷ xs) ys = ap (λ (l : List B). f x ++ l) (flat-append f xs ys) ∙ sym (append-assoc (f x) (flat f xs) (flat f ys))
+
+  pub flat-snoc : (f : A → List B) (xs : List A) (x : A) → flat f (xs ++ x ∷ []) ≡ flat f xs ++ f x
+  unfolding flat
+  flat-snoc f xs x = flat-append f xs (x ∷ []) ∙ ap (λ (l : List B). flat f xs ++ l) (append-nil (f x))
 
 -- the numbers from k on
 pub upFrom→ : (k n : ℕ) {x : ℕ} → List·Memᴰ x (upFrom k n) → (k ≤ x) × (x < k + n)

@@ -1,9 +1,9 @@
 -- Registers read back as they were written, and each has one encoding.
 use Prim.Native.Nat.{ℕ, zero, suc, _+_, _*_, _^_, _<_, _≤_}
 use mathlib.Core.Path.{_≡_, refl, sym, _∙_, ap, ap₂}
-use mathlib.Core.Bool.{true}
+use mathlib.Core.Bool.{true, false}
 use mathlib.Core.List.{List, [], _∷_, _++_, map}
-use mathlib.Core.Option.{some}
+use mathlib.Core.Option.{none, some}
 use native.Mathlib.Nat.{add-assoc}
 use native.Mathlib.Omega.{arith}
 use borrow.Author.Tests.{leb-true, le-leb}
@@ -175,6 +175,10 @@ register-is g e = let d = register-decoded g e in register-yes (registerBytes g)
 pub register-read : (b : Bytes) → isRegister b ≡ true → readRegister b ≡ some (registerIn b)
 unfolding isRegister readRegister read
 register-read b e = rw e
+
+pub register-unread : (b : Bytes) → isRegister b ≡ false → readRegister b ≡ none
+unfolding isRegister readRegister read
+register-unread b e = rw e
 
 -- EQUAL CONTENTS ARE EQUAL BYTES
 pub one-encoding : (b c : Bytes) (g : Register) → readRegister b ≡ some g → readRegister c ≡ some g → b ≡ c

@@ -97,6 +97,12 @@ soundSet→ e r w h =
       records = right _ _ (right _ _ (right _ _ rs));
     }
 
+-- as many sets are read as are asked for
+pub sets-count : (n : ℕ) (b : Bytes) (c at : ℕ) → length (setsIn n b c at) ≡ n
+unfolding setsIn
+sets-count zero b c at = refl
+sets-count (suc n) b c at = ap suc (sets-count n b (c + 16) (at + 16 * word 2 b (c + 14)))
+
 pub contents-length : (first : ℕ) (ws : List WriteSet) → length (contentsFrom first ws) ≡ 16 * length ws
 unfolding contentsFrom le
 contents-length first [] = refl

@@ -1,3 +1,3 @@
+pub mod InputCases
 pub mod PrintLaws
-pub mod JoinLaws
-pub mod ReadLaws
+pub mod SmallKeys

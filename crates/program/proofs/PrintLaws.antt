@@ -1,15 +1,14 @@
 -- What closing wrote is what is printed: the next register and the verdicts come back from their bytes.
-use Prim.Native.Nat.{ℕ, _*_, _≤_}
+use Prim.Native.Nat.{ℕ, _≤_}
 use mathlib.Core.Path.{_≡_, sym, _∙_, ap}
 use mathlib.Core.Bool.{true}
-use mathlib.Core.List.{_++_, map, List·Memᴰ, Memᴰ·of-map}
+use mathlib.Core.List.{_++_, map}
 use native.Mathlib.Omega.{arith}
 use borrow.Author.Tests.{ltb-false, eqb-true, not-false}
 use lib.ListN.{length, take, drop, length-take, length-map, take-append-drop}
 use Rattle.words.specs.Words.{Bytes}
 use Rattle.rules.specs.declared.answer.Refusal.{Refusal}
 use Rattle.rules.specs.declared.answer.Refusal.the-variants.{RegisterIllFormed, SheetIllFormed, WrongEpoch, TooManyRows}
-use Rattle.rules.specs.declared.answer.Verdict.{Verdict}
 use Rattle.rules.specs.declared.answer.Closed.{Closed}
 use Rattle.rules.specs.declared.answer.Closed.the-variants as closed
 use Rattle.rules.specs.Lists.{flat}
@@ -26,26 +25,24 @@ use Rattle.laws.specs.Exactly.{close-exactly}
 use Rattle.laws.specs.Kept.{numbered, kept-done-closing, kept-refused-closing, kept-wrote-closing}
 use Rattle.laws.specs.SheetLaws.{sheet-sound}
 use Rattle.laws.specs.VerdictLength.{verdicts-long}
-use Rattle.report.specs.Report.{Put, report, refusedText, verdictsIn}
-use Rattle.report.specs.VerdictLaws.{Small, verdicts-at, verdict-small}
+use Rattle.report.specs.Report.{Put, report, refusedText}
+use Rattle.forms.specs.VerdictForm.{verdictsLength, verdictsIn}
+use Rattle.forms.specs.VerdictsBack.{verdicts-at}
 use Rattle.program.specs.Printed.{textOf, closedText}
+use Rattle.program.proofs.SmallKeys.{verdicts-small}
 
 -- of a closing that wrote n bytes of the next register into a, and the verdicts into b
 pub record Written (r t a b : Bytes) (n : ℕ) : Type 0 where
   pub is-sheet : isSheet t ≡ true
   pub is-next : isRegister (take n a) ≡ true
   pub within : n ≤ length a
-  pub enough : 5 * length (sheetIn t .sets) ≤ length b
+  pub enough : verdictsLength (length (sheetIn t .sets)) ≤ length b
   pub text : report (registerIn (take n a)) (map csnOf (sheetIn t .sets)) (verdictsIn (length (sheetIn t .sets)) b 0) ≡ closedText r t
 
 module _ (g : Register) (s : Sheet) where
-  verdicts-small : soundSheet s ≡ true → (v : Verdict) → List·Memᴰ v (verdicts g s) → Small v
-  unfolding verdicts
-  verdicts-small e v m = let w = Memᴰ·of-map (verdict g s) s.sets m in rw (w .2) at (verdict-small g s e (w .0) (w .1))
-
   verdicts-back : soundSheet s ≡ true → (b rest : Bytes) → b ≡ flat verdictBytes (verdicts g s) ++ rest → verdictsIn (length s.sets) b 0 ≡ verdicts g s
   unfolding verdicts
-  verdicts-back e b rest p = ap (λ (n : ℕ). verdictsIn n b 0) (sym (length-map s.sets (verdict g s))) ∙ verdicts-at (verdicts g s) b 0 rest (verdicts-small e) p
+  verdicts-back e b rest p = ap (λ (n : ℕ). verdictsIn n b 0) (sym (length-map s.sets (verdict g s))) ∙ verdicts-at (verdicts g s) b 0 rest (verdicts-small g s e) p
 
 module _ (r t a₀ b₀ : Bytes) where
   pub closed-written : {a b : Bytes} {x : Closed} (n m : ℕ) → length a₀ ≡ registerRoom → length b₀ ≡ verdictRoom

@@ -9,13 +9,14 @@ use Rattle.rules.specs.Sheet.{Sheet, csnOf, sheetIn, isSheet}
 use Rattle.rules.specs.Closing.{next, verdicts}
 use Rattle.rules.specs.Refused.{Outcome, refused, done, Closing, registerRoom, verdictRoom, closeOutcome}
 use Rattle.report.specs.Report.{Put, report, refusedText}
-use Rattle.program.specs.Reading.{Early}
+use Rattle.input.specs.Reading.{Early}
 
 -- the report of the next register and the verdicts, or the refusal's number
 unfoldable pub textOf : Register → Sheet → Outcome Closing → Bytes
 textOf g s (refused n) = refusedText n
 textOf g s (done c) = report (next g s) (map csnOf s.sets) (verdicts g s)
 
+-- what is printed of a register and a sheet that are closed
 unfoldable pub closedText : Bytes → Bytes → Bytes
 closedText register sheet = textOf (registerIn register) (sheetIn sheet) (closeOutcome register sheet registerRoom verdictRoom)
 

@@ -1,12 +1,12 @@
 // The closing program: a register and then one or more sheets are read, the sheets are joined, the epoch is closed, and the report written.
 mod closed;
-mod input;
 
 use closed::write_closed;
 use input::read_register;
 use input::read_sheets;
 use report::put_refused;
 use rules::Answer;
+use rules::Extent;
 use rules::REGISTER_ROOM;
 use rules::Refusal;
 use rules::SHEET_ROOM;
@@ -21,10 +21,9 @@ pub fn run(file: i32, out: &mut [u8]) -> usize
     ensures { λ r. ⌜ (Ran (now (out .entry)) (now (out .exit)) r) × (r ≤ reportRoom) ⌝ }
 {
     let mut register = [0u8; REGISTER_ROOM];
-    let n = read_register(file, &mut register);
-    if n == 0 {
+    let Extent::Of(n) = read_register(file, &mut register) else {
         return put_refused(out, 0, Refusal::RegisterIllFormed.number());
-    }
+    };
     let mut sheet = [0u8; SHEET_ROOM];
     match read_sheets(file, &mut sheet) {
         Answer::Wrote(len) => write_closed(&register[..n], &sheet[..len], out),

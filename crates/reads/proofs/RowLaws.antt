@@ -3,20 +3,20 @@ use Prim.Native.Nat.{ℕ, zero, suc, _<_}
 use mathlib.Core.Path.{_≡_, refl, sym, _∙_, ap}
 use mathlib.Core.Logic.{⊎-elim}
 use mathlib.Core.Bool.{Bool, true, false}
-use mathlib.Core.List.{List, [], _∷_, map}
+use mathlib.Core.List.{List, [], _∷_}
 use mathlib.Core.Option.{none, some}
 use native.Mathlib.Nat.{eq-or-lt-of-le}
 use native.Mathlib.Omega.{arith}
 use borrow.Author.Tests.{leb-true, leb-false, eq-eqb, ne-eqb}
-use lib.ListN.{length, getD, length-map, List·getD-map}
+use lib.ListN.{length, getD}
 use lib.Dec.{leb, eqb}
 use Rattle.words.specs.Words.{Bytes}
 use Rattle.rules.specs.declared.row.Row.{Row}
 use Rattle.rules.specs.Lists.{first}
-use Rattle.rules.specs.Register.{Register, keyOf, registerIn, isRegister}
-use Rattle.laws.specs.Says.{ascends}
-use Rattle.laws.specs.RegisterLaws.{RegisterSound, soundRegister→, register-sound}
-use Rattle.registers.specs.RegisterForm.{noRow, rowAt}
+use Rattle.rules.specs.Register.{Register, soundRegister, registerIn, isRegister}
+use Rattle.laws.specs.RegisterLaws.{register-sound}
+use Rattle.registers.specs.RegisterReadings.{noRow, rowAt}
+use Rattle.registers.specs.RowsRise.{larger}
 use Rattle.reads.specs.Steps.{rowWith}
 
 module _ {A : Type 0} (p : A → Bool) (d : A) where
@@ -31,40 +31,22 @@ module _ {A : Type 0} (p : A → Bool) (d : A) where
   first-absent [] h = refl
   first-absent (x ∷ xs) h = rw (h 0 (omega arith)) (first-absent xs (λ k m. h (suc k) (omega arith)))
 
-module _ (g : Register) (w : RegisterSound g) where
-  next-key : (i : ℕ) → suc i < length g.rows → rowAt g i .key < rowAt g (suc i) .key
-  unfolding rowAt
-  next-key i h =
-      omega (arith, ascends 0 (map keyOf g.rows) .told (w .keys) (suc i) (omega (arith, length-map g.rows keyOf)), List·getD-map keyOf g.rows i noRow, List·getD-map keyOf g.rows (suc i) noRow)
-
-  -- the rows' keys ascend
-  further : (i j : ℕ) → i < j → j < length g.rows → rowAt g i .key < rowAt g j .key
-  further i zero l h = absurd (omega arith)
-  further i (suc j) l h =
-      ⊎-elim (λ (e : suc i ≡ suc j). omega (arith, next-key j h, ap (λ (k : ℕ). rowAt g k .key) (suc-same e)))
-      (λ (m : suc i < suc j). omega (arith, next-key j h, further i j (omega arith) (omega arith)))
-      (eq-or-lt-of-le l)
-    where
-      suc-same : suc i ≡ suc j → i ≡ j
-      suc-same e = omega arith
-
-  -- and a row of a larger key stands further on
-  pub beyond : (i j : ℕ) → i < length g.rows → rowAt g i .key < rowAt g j .key → i < j
-  beyond i j h l = go (leb j i) refl
-    where
-      go : (t : Bool) → leb j i ≡ t → i < j
-      go false e = leb-false j i e
-      go true e =
-          ⊎-elim (λ (q : j ≡ i). absurd (omega (arith, ap (λ (k : ℕ). rowAt g k .key) q)))
-          (λ (m : j < i). absurd (omega (arith, further j i m h)))
-          (eq-or-lt-of-le (leb-true j i e))
+-- a row of a larger key stands further on
+pub beyond : (g : Register) → soundRegister g ≡ true → (i j : ℕ) → i < length g.rows → rowAt g i .key < rowAt g j .key → i < j
+beyond g s i j h l = go (leb j i) refl
+  where
+    go : (t : Bool) → leb j i ≡ t → i < j
+    go false e = leb-false j i e
+    go true e =
+        ⊎-elim (λ (q : j ≡ i). absurd (omega (arith, ap (λ (k : ℕ). rowAt g k .key) q)))
+        (λ (m : j < i). absurd (omega (arith, larger g s j i m h)))
+        (eq-or-lt-of-le (leb-true j i e))
 
 -- the row that was met with the key is the one, and where no row has it there is none
 pub there : (b : Bytes) → isRegister b ≡ true → (i key : ℕ) {r : Row} → i < length (registerIn b .rows) → rowAt (registerIn b) i .key ≡ key → r ≡ rowAt (registerIn b) i → some r ≡ rowWith (registerIn b) key
 there b e i key h k q =
     let g = registerIn b in
-    let w = soundRegister→ g (register-sound b e) in
-    ap some q ∙ sym (at g i key h k (λ j l. omega (arith, further g w j i l h)))
+    ap some q ∙ sym (at g i key h k (λ j l. larger g (register-sound b e) j i l h))
   where
     at : (g : Register) (i key : ℕ) → i < length g.rows → rowAt g i .key ≡ key → ((j : ℕ) → j < i → rowAt g j .key < rowAt g i .key) → rowWith g key ≡ some (rowAt g i)
     at g i key h k f =

@@ -15,26 +15,21 @@ use Rattle.rules.specs.declared.answer.Checked.{Checked}
 use Rattle.rules.specs.declared.answer.Checked.the-variants.{Pass, Fails, Refused}
 use Rattle.rules.specs.declared.answer.Reason.{Reason}
 use Rattle.rules.specs.Lists.{_and_, _or_, if_then_else_, any}
-use Rattle.rules.specs.Forms.{read}
-use Rattle.rules.specs.Register.{Register, registerIn, isRegister, readRegister}
+use Rattle.rules.specs.Register.{Register, registerIn, isRegister}
 use Rattle.rules.specs.ReadCheck.{snapshotIsolation, Finding, passes, failing, findingOr, checkFrom}
 use Rattle.rules.specs.Answers.{checkedNumbers}
 use Rattle.rules.specs.Refused.{Outcome, refused, done, maxReads, badCheck, checkReads, readsOutcome}
 use Rattle.rules.specs.Promises.{toldFinding, CheckPromise}
 use Rattle.laws.specs.Tests.{both, or-right, or-left}
 use Rattle.laws.specs.Says.{is-le, _also_}
-use Rattle.laws.specs.RegisterLaws.{register-read}
+use Rattle.laws.specs.RegisterLaws.{register-read, register-unread}
 use Rattle.reads.specs.Steps.{outcomeOf, isRefused, illFormed, andEntry, withEntry, enough}
 
 -- ---- what is read of the bytes
 
-no-register : (b : Bytes) → isRegister b ≡ false → readRegister b ≡ none
-unfolding isRegister readRegister read
-no-register b e = rw e
-
 pub on-ill-formed : (b : Bytes) (mode lsn : ℕ) (es : List Read) → isRegister b ≡ false → readsOutcome b mode lsn es ≡ refused 1
 unfolding readsOutcome checkReads
-on-ill-formed b mode lsn es e = rw (no-register b e)
+on-ill-formed b mode lsn es e = rw (register-unread b e)
 
 pub on-register : (b : Bytes) (mode lsn : ℕ) (es : List Read) → isRegister b ≡ true
     → readsOutcome b mode lsn es ≡ (if badCheck (registerIn b) mode lsn es then refused 10 else done (checkFrom (registerIn b) mode lsn 0 es))

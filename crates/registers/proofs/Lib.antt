@@ -1,2 +1,2 @@
 pub mod RegisterBy
-pub mod RegisterWritten
+pub mod RowsStored

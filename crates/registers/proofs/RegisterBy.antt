@@ -1,32 +1,25 @@
 -- Which tests on the bytes decide whether they are a register, and what its readings mean.
 use Prim.Native.Nat.{ℕ, zero, suc, _+_, _*_, _<_, _≤_}
 use mathlib.Core.Path.{_≡_, refl, sym, _∙_, ap, ap₂}
-use mathlib.Core.Bool.{Bool, true, false}
+use mathlib.Core.Bool.{true, false}
 use mathlib.Core.List.{_∷_, _++_, map}
 use native.Mathlib.Omega.{arith}
-use borrow.Author.Tests.{le-leb, leb-true, leb-false}
+use borrow.Author.Tests.{le-leb}
 use lib.ListN.{length, getD, take, drop, length-map, length-take, List·getD-map}
 use lib.Seq.{take-add, drop-drop, take-all, getD-take}
-use lib.Dec.{leb}
-use mir.Val.{Fits}
-use mir.Syntax.{w8}
 use Rattle.words.specs.Words.{Bytes, le, word, part}
 use Rattle.words.specs.WordLaws.{le-word, word-fits, word-same}
-use Rattle.rules.specs.Lists.{_and_, all, flat, ascendFrom}
+use Rattle.rules.specs.declared.extent.Extent.the-variants.{Of, NoForm}
+use Rattle.rules.specs.Lists.{all, flat, ascendFrom}
 use Rattle.rules.specs.Register.{keyOf, maxRows, soundRow, rowBytes, registerBytes, rowIn, rowsIn, registerIn, isRegister}
 use Rattle.laws.specs.Tests.{both}
 use Rattle.laws.specs.FormLaws.{→fits}
+use Rattle.laws.specs.BytesHere.{Octets}
 use Rattle.laws.specs.Says.{Says, no-of, is-lt, is-le, shaped, _also_, clash, each, ascends}
 use Rattle.laws.specs.RegisterLaws.{soundRow→, RegisterSound, soundRegister→, →soundRegister, rowsIn-length, rowsIn-at, register-length, register-sound, register-exact, register-yes}
-use Rattle.registers.specs.RegisterForm.{noRow, rowAt, placeOf, keyBefore, inOrder, lengthFrom}
-
--- each element is a byte
-abbrev pub Octets : Bytes → Type 0
-Octets b = (k : ℕ) → getD b k 0 < 256
-
--- so it is in a lent slice
-pub lent : (b : Bytes) → ((k : ℕ) → Fits w8 (getD b k 0)) → Octets b
-lent b h k = omega (arith, h k)
+use Rattle.registers.specs.RegisterReadings.{noRow, rowAt}
+use Rattle.registers.specs.RegisterForm.{placeOf, keyBefore, inOrder, lengthFrom}
+use Rattle.registers.specs.RegisterLength.{length-told, head-told}
 
 -- ---- bytes of the right length are what their contents are written as
 
@@ -71,11 +64,13 @@ exact b o h =
 
 -- ---- the tests as facts
 
+-- row i is in order behind a row of key prev, in a register of snapshot s
 pub record InOrder (b : Bytes) (i prev s : ℕ) : Type 0 where
   pub key : prev < word 4 b (placeOf i)
   pub cen : word 4 b (placeOf i + 12) ≤ s
   pub sen : word 4 b (placeOf i + 16) ≤ word 4 b (placeOf i + 12)
 
+-- WHAT CODE TESTS of one row
 pub in-order-says : (b : Bytes) (i prev s : ℕ) → Says (inOrder b i prev s) (InOrder b i prev s)
 unfolding inOrder
 in-order-says b i prev s =
@@ -84,11 +79,13 @@ in-order-says b i prev s =
     also is-le (word 4 b (placeOf i + 12)) s
     also is-le (word 4 b (placeOf i + 16)) (word 4 b (placeOf i + 12)))
 
+-- the bytes are as many as the head, and the number of rows that stands there, ask for
 pub record Sized (b : Bytes) : Type 0 where
   pub head : 8 ≤ length b
   pub few : word 4 b 4 ≤ maxRows
   pub long : length b ≡ 8 + 28 * word 4 b 4
 
+-- the length, and every row
 pub record Formed (b : Bytes) : Type 0 where
   pub sized : Sized b
   pub rows : (i : ℕ) → i < word 4 b 4 → InOrder b i (keyBefore b i) (word 4 b 0)
@@ -190,29 +187,23 @@ row-fails b o i h p q e =
 
 -- ---- the length that a head tells
 
-head-says : (b : Bytes) → Says (leb 8 (length b) and leb (word 4 b 4) maxRows) ((8 ≤ length b) × (word 4 b 4 ≤ maxRows))
-head-says b = is-le 8 (length b) also is-le (word 4 b 4) maxRows
-
-pub length-none : (b : Bytes) → ((8 ≤ length b) × (word 4 b 4 ≤ maxRows) → ⊥) → 0 ≡ lengthFrom b
-unfolding lengthFrom
-length-none b h = rw (sym (no-of (head-says b) h))
-
-pub length-told : (b : Bytes) → 8 ≤ length b → word 4 b 4 ≤ maxRows → lengthFrom b ≡ 8 + 28 * word 4 b 4
-unfolding lengthFrom
-length-told b h n = rw (head-says b .test (h, n))
-
 -- A REGISTER'S OWN LENGTH IS WHAT ITS HEAD TELLS, however much of it is seen
-pub own-length : (b : Bytes) → isRegister b ≡ true → (n : ℕ) → 8 ≤ n → lengthFrom (take n b) ≡ length b
+pub own-length : (b : Bytes) → isRegister b ≡ true → (n : ℕ) → 8 ≤ n → lengthFrom (take n b) ≡ Of (length b)
 own-length b e n h =
     let w = sized b e in
     let seen : 8 ≤ length (take n b) = simp length-take (omega arith) in
     let count : word 4 (take n b) 4 ≡ word 4 b 4 = word-same 4 (take n b) b 4 (λ k l m. getD-take n b k 0 (omega arith)) in
-    omega (arith, length-told (take n b) seen (omega arith))
+    length-told (take n b) seen (omega arith) ∙ ap Of (omega arith)
 
 -- bytes that are as long as their head tells
-pub as-told : (b : Bytes) → 8 ≤ length b → lengthFrom b ≡ length b → Sized b
-as-told b h e = go (leb (word 4 b 4) maxRows) refl
-  where
-    go : (t : Bool) → leb (word 4 b 4) maxRows ≡ t → Sized b
-    go true q = let n = leb-true _ _ q in record { head = h; few = n; long = sym e ∙ length-told b h n }
-    go false q = absurd (omega (arith, length-none b (λ w. omega (arith, leb-false (word 4 b 4) maxRows q))))
+pub as-told : (b : Bytes) (n : ℕ) → lengthFrom b ≡ Of n → n ≡ length b → Sized b
+as-told b n e h = let w = head-told b n e in record { head = w .0; few = w .1; long = omega (arith, w .2) }
+
+-- bytes that tell no length, or another than theirs, are no register
+pub no-length : (b : Bytes) → Octets b → lengthFrom b ≡ NoForm → false ≡ isRegister b
+no-length b o e =
+    no-of (register-says b o) (λ f. let p : Of (placeOf (word 4 b 4)) ≡ NoForm = sym (length-told b (f .sized .head) (f .sized .few)) ∙ e in
+    let z : _≡_ {A = ℕ} 0 1 = cc in omega arith)
+
+pub other-length : (b : Bytes) → Octets b → (n : ℕ) → lengthFrom b ≡ Of n → (n ≡ length b → ⊥) → false ≡ isRegister b
+other-length b o n e h = no-of (register-says b o) (λ f. h (omega (arith, head-told b n e .2, f .sized .long)))

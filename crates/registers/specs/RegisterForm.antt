@@ -1,26 +1,22 @@
--- A register as code meets it: where its rows stand, what of a row is tested, the length that a head tells, and the parts that are written.
+-- How a register lies in bytes: where its rows stand, what of a row is tested, the length that a head tells, and the head. Only this crate uses places.
 use Prim.Native.Nat.{ℕ, zero, suc, _+_, _*_}
 use mathlib.Core.Bool.{Bool}
 use mathlib.Core.List.{_++_}
-use lib.ListN.{length, getD, take}
+use lib.ListN.{length}
 use lib.Dec.{leb, ltb}
 use Rattle.words.specs.Words.{Bytes, le, word}
-use Rattle.rules.specs.declared.row.Row.{Row}
-use Rattle.rules.specs.Lists.{_and_, if_then_else_, flat}
-use Rattle.rules.specs.Numbers.{fresh}
-use Rattle.rules.specs.Register.{Register, maxRows, rowBytes}
+use Rattle.rules.specs.declared.extent.Extent.{Extent}
+use Rattle.rules.specs.declared.extent.Extent.the-variants.{Of, NoForm}
+use Rattle.rules.specs.Lists.{_and_, if_then_else_}
+use Rattle.rules.specs.Register.{maxRows}
 
--- what a place past the last row is taken to hold
-abbrev pub noRow : Row
-noRow = record { key = 0; value = 0; mark = fresh }
-
--- row i of a register
-unfoldable pub rowAt : Register → ℕ → Row
-rowAt g i = getD g.rows i noRow
+-- how long the head is: the snapshot and the row count
+abbrev pub registerHeadLength : ℕ
+registerHeadLength = 8
 
 -- where row i starts
 abbrev pub placeOf : ℕ → ℕ
-placeOf i = 8 + 28 * i
+placeOf i = registerHeadLength + 28 * i
 
 -- the key of the row before row i, and 0 before the first, so that every key is 1 at least
 abbrev pub keyBefore : Bytes → ℕ → ℕ
@@ -34,14 +30,10 @@ inOrder b i prev s =
     and leb (word 4 b (placeOf i + 12)) s
     and leb (word 4 b (placeOf i + 16)) (word 4 b (placeOf i + 12))
 
--- the length of the register that starts with these bytes, or 0 if none does
-unfoldable pub lengthFrom : Bytes → ℕ
-lengthFrom b = if leb 8 (length b) and leb (word 4 b 4) maxRows then 8 + 28 * word 4 b 4 else 0
+-- how long the register is that starts with these bytes, if one does
+unfoldable pub lengthFrom : Bytes → Extent
+lengthFrom b = if leb registerHeadLength (length b) and leb (word 4 b 4) maxRows then Of (placeOf (word 4 b 4)) else NoForm
 
 -- the head's 8 bytes
 unfoldable pub registerHead : ℕ → ℕ → Bytes
 registerHead s n = le 4 s ++ le 4 n
-
--- the head of a register, and its first k rows
-unfoldable pub firstRows : Register → ℕ → Bytes
-firstRows g k = registerHead g.snapshot (length g.rows) ++ flat rowBytes (take k g.rows)

@@ -1,31 +1,33 @@
-// The register: a head of 8 bytes and rows of 28. Whether bytes are one, what it holds, and how it is written.
+// The register: a head of 8 bytes and rows of 28. Whether bytes are one, and what it holds.
+use rules::Extent;
 use rules::MAX_ROWS;
 use rules::Mark;
 use rules::Row;
 use words::get32;
 use words::get64;
-use words::put32;
-use words::put64;
 ghost use mathlib.Core.Path.{_≡_};
 ghost use mathlib.Core.Bool.{true};
 ghost use Prim.Native.Nat.{_+_, _*_, _≤_, _<_};
 ghost use lib.ListN.{length};
-ghost use Rattle.words.specs.Words.{stored};
-ghost use Rattle.rules.specs.Register.{rowIn, registerIn, isRegister, rowBytes};
-ghost use Rattle.registers.specs.RegisterForm.{rowAt, placeOf, inOrder, lengthFrom, registerHead};
+ghost use Rattle.rules.specs.Register.{maxRows, rowIn, registerIn, isRegister};
+ghost use Rattle.registers.specs.RegisterReadings.{rowAt};
+ghost use Rattle.registers.specs.RegisterForm.{placeOf, inOrder, lengthFrom};
 
-// The length of the register that starts with these bytes, from its head; 0 if they start none.
-pub fn register_length(head: &[u8]) -> usize
+// How many bytes of a stream tell how long its register is.
+pub const REGISTER_HEAD: usize = 8;
+
+// How long the register is that starts with these bytes, from its head.
+pub fn register_length(head: &[u8]) -> Extent
     ensures { λ r. ⌜ r ≡ lengthFrom (now (head .entry)) ⌝ }
 {
-    if head.len() < 8 {
-        return 0;
+    if head.len() < REGISTER_HEAD {
+        return Extent::NoForm;
     }
     let n = get32(head, 4) as usize;
     if MAX_ROWS < n {
-        return 0;
+        return Extent::NoForm;
     }
-    8 + 28 * n
+    Extent::Of(length_of(n))
 }
 
 // Whether row i is in order, behind a row of the key prev.
@@ -51,10 +53,10 @@ fn in_order(b: &[u8], i: usize, prev: u32, snapshot: u32) -> bool
 pub fn is_register(b: &[u8]) -> bool
     ensures { λ r. ⌜ r ≡ isRegister (now (b .entry)) ⌝ }
 {
-    if b.len() < 8 {
+    let Extent::Of(len) = register_length(b) else {
         return false;
-    }
-    if register_length(b) != b.len() {
+    };
+    if len != b.len() {
         return false;
     }
     let snapshot = get32(b, 0);
@@ -112,30 +114,9 @@ pub fn row(b: &[u8], i: usize) -> Row
     row_from(b, 8 + 28 * i)
 }
 
-// The head goes first, then row after row.
-pub fn put_register_head(out: &mut [u8], snapshot: u32, rows: usize)
-    requires { ⌜ (8 ≤ length (now out)) × (rows ≤ 1024) ⌝ }
-    ensures { λ _. ⌜ now (out .exit) ≡ stored (now (out .entry)) 0 (registerHead snapshot rows) ⌝ }
-{
-    put32(out, 0, snapshot);
-    put32(out, 4, rows as u32);
-}
-
-pub fn put_row(out: &mut [u8], i: usize, row: Row)
-    requires { ⌜ placeOf (i + 1) ≤ length (now out) ⌝ }
-    ensures { λ _. ⌜ now (out .exit) ≡ stored (now (out .entry)) (placeOf i) (rowBytes row) ⌝ }
-{
-    let at = 8 + 28 * i;
-    put32(out, at, row.key);
-    put64(out, at + 4, row.value);
-    put32(out, at + 12, row.mark.cen);
-    put32(out, at + 16, row.mark.sen);
-    put64(out, at + 20, row.mark.csn);
-}
-
 // The length of a register of n rows.
 pub fn length_of(n: usize) -> usize
-    requires { ⌜ n ≤ 1024 ⌝ }
+    requires { ⌜ n ≤ maxRows ⌝ }
     ensures { λ r. ⌜ r ≡ placeOf n ⌝ }
 {
     8 + 28 * n

@@ -12,14 +12,14 @@ use Rattle.rules.specs.declared.row.Row.{Row}
 use Rattle.rules.specs.declared.answer.Verdict.{Verdict}
 use Rattle.rules.specs.declared.answer.Verdict.the-variants.{Commit}
 use Rattle.rules.specs.Lists.{flat}
-use Rattle.rules.specs.Register.{Register, isRegister, registerIn}
+use Rattle.rules.specs.Register.{Register, maxRows, isRegister, registerIn}
 use Rattle.rules.specs.Sheet.{Sheet, csnOf}
 use Rattle.laws.specs.RegisterLaws.{soundRegister→, register-sound}
-use Rattle.registers.specs.RegisterForm.{noRow, rowAt}
+use Rattle.registers.specs.RegisterReadings.{noRow, rowAt}
 use Rattle.sheets.specs.SheetReadings.{noSet, setAt}
 use Rattle.report.specs.Report.{Put, snapshotLine, rowLine, setLine, setLines}
 use Rattle.forms.specs.VerdictForm.{verdictsIn, verdictAt}
-use Rattle.forms.specs.VerdictPlaces.{verdicts-count}
+use Rattle.forms.specs.VerdictsBack.{verdicts-count}
 use Rattle.report.proofs.PutLaws.{then-put}
 
 flat-more : {A : Type 0} (f : A → Bytes) (xs : List A) (i : ℕ) (d : A) → i < length xs → flat f (take (suc i) xs) ≡ flat f (take i xs) ++ f (getD xs i d)
@@ -67,5 +67,5 @@ sets-whole s b i h =
 pub head-put : {s n s′ n′ : ℕ} {l₀ l₁ : Bytes} {at r : ℕ} → s ≡ s′ → n ≡ n′ → Put (snapshotLine s n) l₀ at l₁ r → Put (snapshotLine s′ n′) l₀ at l₁ r
 head-put e f p = rw (e, f) at p
 
-pub few-rows : (b : Bytes) → isRegister b ≡ true → length (registerIn b .rows) ≤ 1024
+pub few-rows : (b : Bytes) → isRegister b ≡ true → length (registerIn b .rows) ≤ maxRows
 few-rows b h = soundRegister→ (registerIn b) (register-sound b h) .few

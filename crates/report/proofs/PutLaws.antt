@@ -8,8 +8,7 @@ use native.Mathlib.Omega.{arith}
 use borrow.Author.Tests.{lt-ltb, le-ltb}
 use lib.ListN.{length, set, length-append}
 use Rattle.words.specs.Words.{Bytes, stored, part}
-use Rattle.words.specs.WordLaws.{then-stored}
-use Rattle.sheets.specs.SheetWritten.{whole-part}
+use Rattle.words.specs.WordLaws.{whole-part, then-stored}
 use Rattle.report.specs.Report.{Put, digits}
 
 pub put-nothing : (l : Bytes) (at : ℕ) → Put [] l at l at

@@ -1,5 +1,5 @@
 -- What the closing program prints, as bytes: document 01's report of a closed epoch, and of a refusal.
-use Prim.Native.Nat.{ℕ, zero, suc, _+_, _/_, _%_}
+use Prim.Native.Nat.{ℕ, zero, suc, _+_, _*_, _/_, _%_}
 use mathlib.Core.Path.{_≡_}
 use mathlib.Core.List.{List, [], _∷_, _++_}
 use lib.ListN.{length}
@@ -10,17 +10,21 @@ use Rattle.rules.specs.declared.row.Row.{Row}
 use Rattle.rules.specs.declared.answer.Verdict.{Verdict}
 use Rattle.rules.specs.declared.answer.Verdict.the-variants.{Commit, Lost, Unfit}
 use Rattle.rules.specs.Lists.{if_then_else_, flat, runLists}
-use Rattle.rules.specs.Register.{Register}
-unfoldable pub use Rattle.forms.specs.VerdictForm.{verdictsIn}
+use Rattle.rules.specs.Register.{Register, maxRows}
+use Rattle.rules.specs.Sheet.{maxSets}
 
 -- the decimal digits of n in ASCII, the most significant first, and of a longer number the last k
 unfoldable pub digits : ℕ → ℕ → Bytes
 digits zero n = []
 digits (suc k) n = if ltb n 10 then (48 + n) ∷ [] else digits k (n / 10) ++ ((48 + n % 10) ∷ [])
 
--- a number of 64 bits, which has at most 20 digits
+-- no number of 64 bits has more digits
+abbrev pub numberRoom : ℕ
+numberRoom = 20
+
+-- a number of 64 bits
 unfoldable pub decimal : ℕ → Bytes
-decimal n = digits 20 n
+decimal n = digits numberRoom n
 
 -- a word and the number behind it
 unfoldable pub field : Bytes → ℕ → Bytes
@@ -34,13 +38,21 @@ space = 32 ∷ []
 abbrev pub lineEnd : Bytes
 lineEnd = 10 ∷ []
 
+-- no verdict's text is longer: a word of 8 bytes, and a number
+abbrev pub verdictTextRoom : ℕ
+verdictTextRoom = 8 + numberRoom
+
+-- no mark's text is longer: three numbers, a space before each
+abbrev pub markTextRoom : ℕ
+markTextRoom = 3 * (1 + numberRoom)
+
 -- no line is longer
 abbrev pub lineRoom : ℕ
 lineRoom = 112
 
--- no report is longer: a line, 64 sets and 1,024 rows
+-- no report is longer: a line, a line a set and a line a row
 abbrev pub reportRoom : ℕ
-reportRoom = 121968
+reportRoom = lineRoom * (1 + maxSets + maxRows)
 
 -- `snapshot S rows N`
 unfoldable pub snapshotLine : ℕ → ℕ → Bytes

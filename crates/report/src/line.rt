@@ -6,7 +6,7 @@ use rules::Row;
 use rules::Verdict;
 ghost use Prim.Native.Nat.{_+_, _≤_};
 ghost use lib.ListN.{length};
-ghost use Rattle.report.specs.Report.{Put, lineRoom, snapshotLine, verdictText, setLine, markText, rowLine, refusedText};
+ghost use Rattle.report.specs.Report.{Put, verdictTextRoom, markTextRoom, lineRoom, snapshotLine, verdictText, setLine, markText, rowLine, refusedText};
 
 pub fn put_snapshot_line(out: &mut [u8], at: usize, snapshot: u32, rows: usize) -> usize
     requires { ⌜ at + lineRoom ≤ length (now out) ⌝ }
@@ -18,8 +18,8 @@ pub fn put_snapshot_line(out: &mut [u8], at: usize, snapshot: u32, rows: usize) 
 }
 
 fn put_verdict(out: &mut [u8], at: usize, verdict: Verdict) -> usize
-    requires { ⌜ at + 28 ≤ length (now out) ⌝ }
-    ensures { λ r. ⌜ (Put (verdictText verdict) (now (out .entry)) at (now (out .exit)) r) × (r ≤ at + 28) ⌝ }
+    requires { ⌜ at + verdictTextRoom ≤ length (now out) ⌝ }
+    ensures { λ r. ⌜ (Put (verdictText verdict) (now (out .entry)) at (now (out .exit)) r) × (r ≤ at + verdictTextRoom) ⌝ }
 {
     match verdict {
         Verdict::Commit => put_field(out, at, b" commit ", 0),
@@ -38,8 +38,8 @@ pub fn put_set_line(out: &mut [u8], at: usize, csn: u64, verdict: Verdict) -> us
 }
 
 fn put_mark(out: &mut [u8], at: usize, mark: Mark) -> usize
-    requires { ⌜ at + 63 ≤ length (now out) ⌝ }
-    ensures { λ r. ⌜ (Put (markText mark) (now (out .entry)) at (now (out .exit)) r) × (r ≤ at + 63) ⌝ }
+    requires { ⌜ at + markTextRoom ≤ length (now out) ⌝ }
+    ensures { λ r. ⌜ (Put (markText mark) (now (out .entry)) at (now (out .exit)) r) × (r ≤ at + markTextRoom) ⌝ }
 {
     let cen = put_field(out, at, b" ", mark.cen as u64);
     let sen = put_field(out, cen, b" ", mark.sen as u64);

@@ -16,14 +16,15 @@ ghost use lib.ListN.{length};
 ghost use Rattle.rules.specs.Lists.{flat};
 ghost use Rattle.rules.specs.Register.{isRegister, registerIn};
 ghost use Rattle.rules.specs.Sheet.{isSheet, sheetIn, csnOf};
-ghost use Rattle.report.specs.Report.{Put, lineRoom, reportRoom, rowLine, setLines, verdictsIn, report};
+ghost use Rattle.forms.specs.VerdictForm.{verdictsLength, verdictsIn};
+ghost use Rattle.report.specs.Report.{Put, lineRoom, reportRoom, rowLine, setLines, report};
 
 // No report is longer: a line, 64 sets and 1,024 rows.
 pub const REPORT_ROOM: usize = 121968;
 
 // A line for each set.
 fn put_set_lines(sheet: &[u8], verdicts: &[u8], out: &mut [u8], at: usize) -> usize
-    requires { ⌜ (isSheet (now sheet) ≡ true) × (5 * length (sheetIn (now sheet) .sets) ≤ length (now verdicts)) × (at + lineRoom * length (sheetIn (now sheet) .sets) ≤ length (now out)) ⌝ }
+    requires { ⌜ (isSheet (now sheet) ≡ true) × (verdictsLength (length (sheetIn (now sheet) .sets)) ≤ length (now verdicts)) × (at + lineRoom * length (sheetIn (now sheet) .sets) ≤ length (now out)) ⌝ }
     ensures { λ r. ⌜ (Put (setLines (map csnOf (sheetIn (now (sheet .entry)) .sets)) (verdictsIn (length (sheetIn (now (sheet .entry)) .sets)) (now (verdicts .entry)) 0)) (now (out .entry)) at (now (out .exit)) r) × (r ≤ at + lineRoom * length (sheetIn (now (sheet .entry)) .sets)) ⌝ }
 {
     let n = set_count(sheet);
@@ -53,7 +54,7 @@ fn put_row_lines(register: &[u8], out: &mut [u8], at: usize) -> usize
 
 // THE REPORT, at the start of out, of a next register, a closed sheet and its verdicts.
 pub fn write_report(register: &[u8], sheet: &[u8], verdicts: &[u8], out: &mut [u8]) -> usize
-    requires { ⌜ (isRegister (now register) ≡ true) × (isSheet (now sheet) ≡ true) × (5 * length (sheetIn (now sheet) .sets) ≤ length (now verdicts)) × (reportRoom ≤ length (now out)) ⌝ }
+    requires { ⌜ (isRegister (now register) ≡ true) × (isSheet (now sheet) ≡ true) × (verdictsLength (length (sheetIn (now sheet) .sets)) ≤ length (now verdicts)) × (reportRoom ≤ length (now out)) ⌝ }
     ensures { λ r. ⌜ (Put (report (registerIn (now (register .entry))) (map csnOf (sheetIn (now (sheet .entry)) .sets)) (verdictsIn (length (sheetIn (now (sheet .entry)) .sets)) (now (verdicts .entry)) 0)) (now (out .entry)) 0 (now (out .exit)) r) × (r ≤ reportRoom) ⌝ }
 {
     let sets = put_snapshot_line(out, 0, snapshot(register), row_count(register));

@@ -2,7 +2,10 @@
 use words::copy;
 ghost use Prim.Native.Nat.{_+_, _≤_};
 ghost use lib.ListN.{length};
-ghost use Rattle.report.specs.Report.{Put, digits, decimal, field, lineEnd};
+ghost use Rattle.report.specs.Report.{Put, digits, numberRoom, decimal, field, lineEnd};
+
+// No number of 64 bits has more digits.
+const NUMBER_ROOM: usize = 20;
 
 // The digits of n, the last k at most: those before the last come first.
 fn put_digits(out: &mut [u8], at: usize, k: usize, n: u64) -> usize
@@ -22,16 +25,16 @@ fn put_digits(out: &mut [u8], at: usize, k: usize, n: u64) -> usize
 }
 
 pub fn put_decimal(out: &mut [u8], at: usize, n: u64) -> usize
-    requires { ⌜ at + 20 ≤ length (now out) ⌝ }
-    ensures { λ r. ⌜ (Put (decimal n) (now (out .entry)) at (now (out .exit)) r) × (r ≤ at + 20) ⌝ }
+    requires { ⌜ at + numberRoom ≤ length (now out) ⌝ }
+    ensures { λ r. ⌜ (Put (decimal n) (now (out .entry)) at (now (out .exit)) r) × (r ≤ at + numberRoom) ⌝ }
 {
-    put_digits(out, at, 20, n)
+    put_digits(out, at, NUMBER_ROOM, n)
 }
 
 // A word and the number behind it.
 pub fn put_field(out: &mut [u8], at: usize, text: &[u8], n: u64) -> usize
-    requires { ⌜ at + length (now text) + 20 ≤ length (now out) ⌝ }
-    ensures { λ r. ⌜ (Put (field (now (text .entry)) n) (now (out .entry)) at (now (out .exit)) r) × (r ≤ at + length (now (text .entry)) + 20) ⌝ }
+    requires { ⌜ at + length (now text) + numberRoom ≤ length (now out) ⌝ }
+    ensures { λ r. ⌜ (Put (field (now (text .entry)) n) (now (out .entry)) at (now (out .exit)) r) × (r ≤ at + length (now (text .entry)) + numberRoom) ⌝ }
 {
     copy(text, 0, text.len(), out, at);
     put_decimal(out, at + text.len(), n)

@@ -1,4 +1,4 @@
--- What decides between two marks, by cases: the facts that the proof of `Mark::precedes` uses.
+-- What decides between two marks, by cases: lemmas for the proof of `Mark::precedes` and for the laws of precedence.
 use mathlib.Core.Path.{_≡_}
 use borrow.Author.Tests.{eq-eqb, ne-eqb}
 use lib.Dec.{ltb}

@@ -1,2 +1,4 @@
-pub mod NextOf
+pub mod PartsStored
+pub mod SheetPlaces
 pub mod StreamLaws
+pub mod TakingLaws

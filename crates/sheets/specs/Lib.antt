@@ -1,5 +1,7 @@
 pub mod SheetLength
+pub mod LengthLaws
 pub mod SheetMembers
-pub mod SheetPlaces
 pub mod SheetReadings
+pub mod SheetSizes
 pub mod SheetWritten
+pub mod Taking

@@ -3,11 +3,9 @@ use Prim.Native.Nat.{ℕ, _+_, _*_}
 use mathlib.Core.Bool.{Bool}
 use mathlib.Core.List.{List, [], _∷_, _++_}
 use lib.ListN.{length, getD, take}
-use lib.Dec.{ltb}
 use Rattle.words.specs.Words.{Bytes, le}
 use Rattle.rules.specs.declared.row.Record.{Record}
-use Rattle.rules.specs.Lists.{if_then_else_}
-use Rattle.rules.specs.Sheet.{WriteSet, Sheet, noNotice, stateByte}
+use Rattle.rules.specs.Sheet.{WriteSet, Sheet, noNotice, maxSets, maxRecords, stateByte}
 
 -- what a place past the last set is taken to hold
 abbrev pub noSet : WriteSet
@@ -34,21 +32,57 @@ unfoldable pub total : List WriteSet → ℕ
 total [] = 0
 total (w ∷ ws) = length w.records + total ws
 
+-- how many masters there are
+abbrev pub masterCount : ℕ
+masterCount = 16
+
+-- the most records of a sheet
+abbrev pub maxTotal : ℕ
+maxTotal = maxSets * maxRecords
+
+-- where the notices start
+abbrev pub noticesPlace : ℕ
+noticesPlace = 8
+
+-- how long the head is
+abbrev pub headLength : ℕ
+headLength = 24
+
+-- where the contents start
+abbrev pub contentsPlace : ℕ
+contentsPlace = headLength
+
+-- how long an entry of the contents is
+abbrev pub entryLength : ℕ
+entryLength = 16
+
 -- where entry i of the contents starts
 abbrev pub entryPlace : ℕ → ℕ
-entryPlace i = 24 + 16 * i
+entryPlace i = contentsPlace + entryLength * i
+
+-- where the bodies of n sets start
+abbrev pub bodiesPlace : ℕ → ℕ
+bodiesPlace n = entryPlace n
+
+-- how long a record is
+abbrev pub recordLength : ℕ
+recordLength = 16
+
+-- where a record starts that has k before it, in a sheet of n sets
+abbrev pub recordPlace : ℕ → ℕ → ℕ
+recordPlace n k = bodiesPlace n + recordLength * k
 
 -- where the body of set i starts
 unfoldable pub bodyPlace : Sheet → ℕ → ℕ
-bodyPlace s i = 24 + 16 * length s.sets + 16 * total (take i s.sets)
+bodyPlace s i = recordPlace (length s.sets) (total (take i s.sets))
 
 -- how long a sheet of n sets is that have k records together
 abbrev pub sheetLength : ℕ → ℕ → ℕ
-sheetLength n k = 24 + 16 * n + 16 * k
+sheetLength n k = recordPlace n k
 
--- of two sets the one with the smaller csn
-unfoldable pub nextOf : WriteSet → WriteSet → WriteSet
-nextOf v w = if ltb v.csn w.csn then v else w
+-- the room of the sheet of one offer: a set of the most records is the longest
+abbrev pub oneRoom : ℕ
+oneRoom = sheetLength 1 maxRecords
 
 -- the first eight bytes of a sheet: epoch, roster, state and set count
 unfoldable pub startBytes : ℕ → ℕ → Bool → ℕ → Bytes

@@ -5,10 +5,14 @@ use words::get32;
 use words::get64;
 ghost use mathlib.Core.Path.{_≡_};
 ghost use mathlib.Core.Bool.{true};
-ghost use Prim.Native.Nat.{_+_, _*_, _≤_, _<_};
-ghost use lib.ListN.{length, take};
-ghost use Rattle.rules.specs.Sheet.{isSheet, sheetIn, recordIn, recordsBytes};
-ghost use Rattle.sheets.specs.SheetReadings.{noticeAt, setAt, recordAt, total, bodyPlace, nextOf};
+ghost use Prim.Native.Nat.{_+_, _≤_, _<_};
+ghost use lib.ListN.{length};
+ghost use Rattle.rules.specs.Sheet.{inRoster, isSheet, sheetIn, recordIn, recordsBytes};
+ghost use Rattle.sheets.specs.SheetReadings.{noticeAt, setAt, recordAt, masterCount, bodyPlace};
+ghost use Rattle.sheets.specs.Taking.{Chosen, taken, nextOf};
+
+// How many masters there are.
+pub const MASTERS: usize = 16;
 
 pub fn epoch(b: &[u8]) -> u32
     requires { ⌜ isSheet (now b) ≡ true ⌝ }
@@ -24,6 +28,14 @@ pub fn roster(b: &[u8]) -> u16
     get16(b, 4)
 }
 
+// Whether master m is in the roster.
+pub fn in_roster(b: &[u8], m: u32) -> bool
+    requires { ⌜ (isSheet (now b) ≡ true) × (m < masterCount) ⌝ }
+    ensures { λ r. ⌜ r ≡ inRoster (sheetIn (now (b .entry)) .roster) m ⌝ }
+{
+    (roster(b) >> m) % 2 == 1
+}
+
 pub fn is_spoiled(b: &[u8]) -> bool
     requires { ⌜ isSheet (now b) ≡ true ⌝ }
     ensures { λ r. ⌜ r ≡ sheetIn (now (b .entry)) .spoiled ⌝ }
@@ -33,7 +45,7 @@ pub fn is_spoiled(b: &[u8]) -> bool
 
 // What master m noticed, or 255.
 pub fn notice(b: &[u8], m: usize) -> u8
-    requires { ⌜ (isSheet (now b) ≡ true) × (m < 16) ⌝ }
+    requires { ⌜ (isSheet (now b) ≡ true) × (m < masterCount) ⌝ }
     ensures { λ r. ⌜ r ≡ noticeAt (sheetIn (now (b .entry))) m ⌝ }
 {
     b[8 + m]
@@ -114,13 +126,21 @@ pub fn body(b: &[u8], i: usize) -> &[u8]
     &b[at..end]
 }
 
-// Of set i of one sheet and set j of another, the body of the one with the smaller csn; at equal csns the second's.
-pub fn next_body<'a>(a: &'a [u8], i: usize, b: &'a [u8], j: usize) -> &'a [u8]
-    requires { ⌜ (isSheet (now a) ≡ true) × (isSheet (now b) ≡ true) × (i < length (sheetIn (now a) .sets)) × (j < length (sheetIn (now b) .sets)) ⌝ }
-    ensures { λ r. ⌜ now r ≡ recordsBytes (nextOf (setAt (sheetIn (now (a .entry))) i) (setAt (sheetIn (now (b .entry))) j) .records) ⌝ }
+// From which of two sheets the next set is taken. A set of both is passed in both.
+pub enum Next {
+    First,
+    Second,
+    Both,
+}
+
+// Of set i of one sheet and set j of another, the body of the one that is next: the one with the smaller csn.
+pub fn next_body<'a>(a: &'a [u8], i: usize, b: &'a [u8], j: usize, next: Next) -> &'a [u8]
+    requires { ⌜ (isSheet (now a) ≡ true) × (isSheet (now b) ≡ true) × (Chosen next (sheetIn (now a)) i (sheetIn (now b)) j) ⌝ }
+    ensures { λ r. ⌜ (now r ≡ recordsBytes (taken next (setAt (sheetIn (now (a .entry))) i) (setAt (sheetIn (now (b .entry))) j) .records)) × (i < length (sheetIn (now (a .entry)) .sets) → j < length (sheetIn (now (b .entry)) .sets) → now r ≡ recordsBytes (nextOf (setAt (sheetIn (now (a .entry))) i) (setAt (sheetIn (now (b .entry))) j) .records)) ⌝ }
 {
-    if set_csn(a, i) < set_csn(b, j) {
-        return body(a, i);
+    match next {
+        Next::First => body(a, i),
+        Next::Second => body(b, j),
+        Next::Both => body(b, j),
     }
-    body(b, j)
 }

@@ -1,33 +1,37 @@
 // How long a sheet is, for a reader of a stream: safe on any bytes.
+use rules::Extent;
 use rules::MAX_SETS;
 use words::get16;
 ghost use mathlib.Core.Path.{_≡_};
 ghost use Rattle.sheets.specs.SheetLength.{contentsEnd, sheetEnd};
 
-// The length of head and contents of the sheet that starts with these bytes, or 0 if none does.
-pub fn contents_length(b: &[u8]) -> usize
+// How many bytes of a stream tell how long head and contents of its sheet are.
+pub const SHEET_HEAD: usize = 24;
+
+// How long head and contents are of the sheet that starts with these bytes.
+pub fn contents_length(b: &[u8]) -> Extent
     ensures { λ r. ⌜ r ≡ contentsEnd (now (b .entry)) ⌝ }
 {
-    if b.len() < 24 {
-        return 0;
+    if b.len() < SHEET_HEAD {
+        return Extent::NoForm;
     }
     let n = b[7] as usize;
     if MAX_SETS < n {
-        return 0;
+        return Extent::NoForm;
     }
-    24 + 16 * n
+    let end = SHEET_HEAD + 16 * n;
+    Extent::Of(end)
 }
 
-// The length of the sheet that starts with these bytes, or 0 if they hold no whole head and contents.
-pub fn sheet_length(b: &[u8]) -> usize
+// How long the sheet is that starts with these bytes, if they hold its whole head and contents.
+pub fn sheet_length(b: &[u8]) -> Extent
     ensures { λ r. ⌜ r ≡ sheetEnd (now (b .entry)) ⌝ }
 {
-    let end = contents_length(b);
-    if end == 0 {
-        return 0;
-    }
+    let Extent::Of(end) = contents_length(b) else {
+        return Extent::NoForm;
+    };
     if b.len() < end {
-        return 0;
+        return Extent::NoForm;
     }
     let n = b[7] as usize;
     let mut records: usize = 0;
@@ -36,5 +40,6 @@ pub fn sheet_length(b: &[u8]) -> usize
         records += get16(b, 24 + 16 * i + 14) as usize;
         i += 1;
     }
-    end + 16 * records
+    let len = end + 16 * records;
+    Extent::Of(len)
 }

@@ -1,14 +1,31 @@
-// A case: its head of 64 bytes, then its inputs.
-use crate::checking::run_check;
-use crate::checking::run_list;
-use crate::operation::run_close;
-use crate::operation::run_join;
-use crate::operation::run_notice;
-use crate::operation::run_open;
-use crate::operation::run_put;
+// A case: its head, then its inputs.
+use cases::FILLED;
+use cases::FIRST_INPUT;
+use cases::HEAD_LENGTH;
+use cases::LABEL_LENGTH;
+use cases::OPERATION;
+use cases::OUT_ROOM;
+use cases::SECOND_INPUT;
+use cases::SECOND_ROOM;
+use cases::THIRD_INPUT;
+use cases::run_close;
+use cases::run_join;
+use cases::run_notice;
+use cases::run_open;
+use cases::run_put;
+use read_cases::run_check;
+use read_cases::run_list;
 use words::get32;
 ghost use Prim.Native.Nat.{_+_, _≤_};
 ghost use lib.ListN.{length};
+ghost use Rattle.cases.specs.Case.{caseHead};
+
+// The longest inputs and buffers that a case may have.
+const FIRST_MOST: usize = 32768;
+
+const SECOND_MOST: usize = 16384;
+
+const THIRD_MOST: usize = 512;
 
 // A length or a room, from its place in the head, or most where it is more.
 fn size(head: &[u8], at: usize, most: usize) -> usize
@@ -28,9 +45,9 @@ fn operate<'a>(
     out: &mut [u8],
     verdicts: &mut [u8],
 )
-    requires { ⌜ 64 ≤ length (now head) ⌝ }
+    requires { ⌜ caseHead ≤ length (now head) ⌝ }
 {
-    match head[24] {
+    match head[OPERATION] {
         1 => run_open(head, out),
         2 => run_put(head, first, second, out),
         3 => run_notice(head, first, out),
@@ -41,14 +58,14 @@ fn operate<'a>(
     }
 }
 
-// Its buffers hold 170 in every byte.
+// Its buffers hold the same number in every byte.
 fn run_buffers<'a>(head: &[u8], first: &'a [u8], second: &'a [u8], third: &[u8])
-    requires { ⌜ 64 ≤ length (now head) ⌝ }
+    requires { ⌜ caseHead ≤ length (now head) ⌝ }
 {
-    let mut out = [170u8; 32768];
-    let mut verdicts = [170u8; 512];
-    let n = size(head, 56, 32768);
-    let m = size(head, 60, 512);
+    let mut out = [FILLED; FIRST_MOST];
+    let mut verdicts = [FILLED; THIRD_MOST];
+    let n = size(head, OUT_ROOM, FIRST_MOST);
+    let m = size(head, SECOND_ROOM, THIRD_MOST);
     operate(
         head,
         first,
@@ -67,14 +84,14 @@ fn read_input(file: i32, buf: &mut [u8], n: usize)
 }
 
 fn run_inputs(file: i32, head: &[u8])
-    requires { ⌜ 64 ≤ length (now head) ⌝ }
+    requires { ⌜ caseHead ≤ length (now head) ⌝ }
 {
-    let mut first = [0u8; 32768];
-    let mut second = [0u8; 16384];
-    let mut third = [0u8; 512];
-    let n = size(head, 44, 32768);
-    let m = size(head, 48, 16384);
-    let k = size(head, 52, 512);
+    let mut first = [0u8; FIRST_MOST];
+    let mut second = [0u8; SECOND_MOST];
+    let mut third = [0u8; THIRD_MOST];
+    let n = size(head, FIRST_INPUT, FIRST_MOST);
+    let m = size(head, SECOND_INPUT, SECOND_MOST);
+    let k = size(head, THIRD_INPUT, THIRD_MOST);
     read_input(file, &mut first, n);
     read_input(file, &mut second, m);
     read_input(file, &mut third, k);
@@ -83,12 +100,12 @@ fn run_inputs(file: i32, head: &[u8])
 
 // The next case of the file: whether there was one.
 pub fn run_case(file: i32) -> bool {
-    let mut head = [0u8; 64];
+    let mut head = [0u8; HEAD_LENGTH];
     let got = io::read_full(file, &mut head);
-    if got < 64 {
+    if got < HEAD_LENGTH {
         return false;
     }
-    io::write_all(1, &head[..24]);
+    io::write_all(1, &head[..LABEL_LENGTH]);
     run_inputs(file, &head);
     io::write_all(1, b"\n");
     true

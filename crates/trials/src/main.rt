@@ -1,8 +1,5 @@
 // Runs the cases of the files that its arguments name, and prints a line of each. The layout of a case stands in rust/vectors.
 mod case;
-mod checking;
-mod operation;
-mod shown;
 
 use case::run_case;
 

@@ -1,2 +1,5 @@
+pub mod Decisions
 pub mod Masters
 pub mod Same
+pub mod Steps
+pub mod Walked

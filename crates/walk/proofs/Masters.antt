@@ -1,4 +1,4 @@
--- A loop over the sixteen masters that looks for one that passes a test, and what it finds of the reasons that spoil.
+-- A loop over the masters that looks for one that passes a test, and what it finds of the reasons that spoil.
 use Prim.Native.Nat.{ℕ, _<_, _≤_}
 use mathlib.Core.Path.{_≡_, refl, sym, _∙_, ap}
 use mathlib.Core.Bool.{Bool, true, false, not, false≢true}
@@ -8,20 +8,20 @@ use borrow.Author.Tests.{eq-eqb, ne-eqb, lt-leb, le-leb, ltb-true, ltb-false}
 use lib.Dec.{ltb, leb, eqb}
 use lib.ListN.{length}
 use Rattle.rules.specs.Lists.{_and_, _or_, any}
-use Rattle.rules.specs.Sheet.{Sheet, maxSets, masters, setsOf, allows}
+use Rattle.rules.specs.Sheet.{Sheet, noNotice, maxSets, masters, setsOf, allows}
 use Rattle.rules.specs.Gathering.{clash, someTwo}
 use Rattle.laws.specs.Tests.{not-true-false}
 use Rattle.laws.specs.ListLaws.{any→, →any, upFrom→, →upFrom}
 use Rattle.laws.specs.Joining.{noticeTogether, noticesDiffer, together, overAt, joinSpoils}
-use Rattle.sheets.specs.SheetReadings.{noticeAt}
+use Rattle.sheets.specs.SheetReadings.{masterCount, noticeAt}
 use Rattle.walk.specs.Walk.{noticeSpoils}
 
-pub found : (f : ℕ → Bool) (m : ℕ) → m < 16 → f m ≡ true → true ≡ any f masters
-found f m h e = sym (→any f (→upFrom 0 16 (omega arith) h) e)
+pub found : (f : ℕ → Bool) (m : ℕ) → m < masterCount → f m ≡ true → true ≡ any f masters
+found f m h e = sym (→any f (→upFrom 0 masterCount (omega arith) h) e)
 
-pub none-found : (f : ℕ → Bool) (i : ℕ) → 16 ≤ i → ((k : ℕ) → k < i → f k ≡ false) → false ≡ any f masters
+pub none-found : (f : ℕ → Bool) (i : ℕ) → masterCount ≤ i → ((k : ℕ) → k < i → f k ≡ false) → false ≡ any f masters
 none-found f i h n =
-    sym (not-true-false (λ e. let r = any→ f masters e in let l = upFrom→ 0 16 (r .1) .1 in false≢true (sym (n (r .0) (omega arith)) ∙ r .2)))
+    sym (not-true-false (λ e. let r = any→ f masters e in let l = upFrom→ 0 masterCount (r .1) .1 in false≢true (sym (n (r .0) (omega arith)) ∙ r .2)))
 
 not-le : (x n : ℕ) → ltb x n ≡ not (leb n x)
 not-le x n = go (ltb x n) refl
@@ -41,23 +41,23 @@ module _ (a b : Sheet) (m : ℕ) where
   unfolding noticeAt noticeTogether
   not-smaller h = omega arith
 
-  pub no-first : noticeAt a m ≡ 255 → false ≡ noticesDiffer a b m
+  pub no-first : noticeAt a m ≡ noNotice → false ≡ noticesDiffer a b m
   unfolding noticeAt noticesDiffer _and_
   no-first e = rw (eq-eqb _ _ e)
 
-  pub no-second : (noticeAt a m ≡ 255 → ⊥) → noticeAt b m ≡ 255 → false ≡ noticesDiffer a b m
+  pub no-second : (noticeAt a m ≡ noNotice → ⊥) → noticeAt b m ≡ noNotice → false ≡ noticesDiffer a b m
   unfolding noticeAt noticesDiffer _and_
   no-second h e = rw (ne-eqb _ _ h, eq-eqb _ _ e)
 
-  pub two-noticed : (noticeAt a m ≡ 255 → ⊥) → (noticeAt b m ≡ 255 → ⊥) → not (eqb (noticeAt a m) (noticeAt b m)) ≡ noticesDiffer a b m
+  pub two-noticed : (noticeAt a m ≡ noNotice → ⊥) → (noticeAt b m ≡ noNotice → ⊥) → not (eqb (noticeAt a m) (noticeAt b m)) ≡ noticesDiffer a b m
   unfolding noticeAt noticesDiffer _and_
   two-noticed h k = rw (ne-eqb _ _ h, ne-eqb _ _ k)
 
-  pub none-noticed : noticeTogether a b m ≡ 255 → false ≡ overAt a b m
+  pub none-noticed : noticeTogether a b m ≡ noNotice → false ≡ overAt a b m
   unfolding overAt allows _or_
   none-noticed e = rw (eq-eqb _ _ e)
 
-  pub some-noticed : (noticeTogether a b m ≡ 255 → ⊥) → ltb (noticeTogether a b m) (setsOf m (together a b)) ≡ overAt a b m
+  pub some-noticed : (noticeTogether a b m ≡ noNotice → ⊥) → ltb (noticeTogether a b m) (setsOf m (together a b)) ≡ overAt a b m
   unfolding overAt allows _or_
   some-noticed h = rw (ne-eqb _ _ h) (not-le (noticeTogether a b m) (setsOf m (together a b)))
 

@@ -1,21 +1,17 @@
 -- Equal bytes are equal records of a sound set, so equal sets can be told by their bytes.
-use Prim.Native.Nat.{ℕ, _<_}
 use mathlib.Core.Path.{_≡_, refl, sym, _∙_, ap}
 use mathlib.Core.Bool.{Bool, true, false, not, true≢false}
 use mathlib.Core.Option.{Option·some-injective}
 use borrow.Author.Tests.{eq-eqb, ne-eqb}
-use lib.ListN.{length, getD}
 use Rattle.words.specs.Words.{Bytes}
 use Rattle.rules.specs.Lists.{_and_, same}
-use Rattle.rules.specs.Sheet.{WriteSet, isSheet, sheetIn, soundSet, soundRecords, recordsBytes, readRecords}
+use Rattle.rules.specs.Sheet.{WriteSet, soundRecords, recordsBytes, readRecords}
 use Rattle.rules.specs.Gathering.{sameSet, clash}
-use Rattle.laws.specs.Tests.{right, not-true-false}
+use Rattle.laws.specs.Tests.{not-true-false}
 use Rattle.laws.specs.FormLaws.{same→, same-refl}
-use Rattle.laws.specs.SheetLaws.{soundSheet→, records-written, sheet-sound}
-use Rattle.laws.specs.Says.{each}
+use Rattle.laws.specs.SheetLaws.{records-written}
 use Rattle.laws.specs.Distinct.{sameSet→}
 use Rattle.laws.specs.Merging.{sameSet-refl}
-use Rattle.sheets.specs.SheetReadings.{noSet, setAt}
 
 -- lists that differ are not the same
 pub not-same : (s t : Bytes) → (s ≡ t → ⊥) → false ≡ same s t
@@ -24,25 +20,11 @@ not-same s t h = sym (not-true-false (λ e. h (same→ s t e)))
 pub are-same : (s t : Bytes) → s ≡ t → true ≡ same s t
 are-same s t e = sym (ap (same s) (sym e) ∙ same-refl s)
 
-records-of : (e r : ℕ) (w : WriteSet) → soundSet e r w ≡ true → soundRecords w.records ≡ true
-unfolding soundSet
-records-of e r w h = right _ _ (right _ _ (right _ _ h))
-
--- the records of a set of an examined sheet
-pub sound-records : (b : Bytes) (i : ℕ) → isSheet b ≡ true → i < length (sheetIn b .sets) → soundRecords (setAt (sheetIn b) i .records) ≡ true
-unfolding setAt
-sound-records b i e h =
-    let s = sheetIn b in
-    records-of s.epoch s.roster (getD s.sets i noSet) (each (soundSet s.epoch s.roster) noSet s.sets .told (soundSheet→ s (sheet-sound b e) .sets) i h)
-
 -- one encoding
 same-records : (v w : WriteSet) → soundRecords v.records ≡ true → soundRecords w.records ≡ true → recordsBytes v.records ≡ recordsBytes w.records → v.records ≡ w.records
 same-records v w p q e = Option·some-injective _ _ (sym (records-written v.records p) ∙ ap readRecords e ∙ records-written w.records q)
 
 module _ (v w : WriteSet) where
-  pub other-csn : (v.csn ≡ w.csn → ⊥) → false ≡ sameSet v w
-  other-csn h = sym (not-true-false (λ e. h (ap (λ (x : WriteSet). x.csn) (sameSet→ v w e))))
-
   pub other-sen : (v.sen ≡ w.sen → ⊥) → false ≡ sameSet v w
   other-sen h = sym (not-true-false (λ e. h (ap (λ (x : WriteSet). x.sen) (sameSet→ v w e))))
 

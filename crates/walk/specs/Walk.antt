@@ -1,16 +1,18 @@
 -- Two sheets walked together, set by set in csn order, and master by master.
-use Prim.Native.Nat.{ℕ, _≤_, _<_}
+use Prim.Native.Nat.{ℕ, _+_, _≤_, _<_}
 use mathlib.Core.Path.{_≡_}
 use mathlib.Core.Bool.{Bool, true, false}
 use mathlib.Core.List.{List, _∷_, _++_}
 use lib.ListN.{length, getD, drop}
 use Rattle.words.specs.Words.{Bytes}
 use Rattle.rules.specs.Lists.{_or_}
-use Rattle.rules.specs.Sheet.{WriteSet, Sheet, maxSets, isSheet, sheetIn}
+use Rattle.rules.specs.Sheet.{WriteSet, Sheet, isSheet, sheetIn}
 use Rattle.rules.specs.Gathering.{distinct, clash, someTwo}
-use Rattle.rules.specs.Refused.{sheetRoom}
-use Rattle.laws.specs.Joining.{noticesDiffer, together, overAt}
+use Rattle.laws.specs.Joining.{noticesDiffer, overAt}
+use Rattle.sheets.specs.declared.reading.Next.{Next}
+use Rattle.sheets.specs.declared.reading.Next.the-variants as next
 use Rattle.sheets.specs.SheetReadings.{noSet, setAt}
+use Rattle.sheets.specs.Taking.{taken, Chosen}
 use Rattle.walk.specs.declared.next.Entry.{Entry}
 use Rattle.walk.specs.declared.place.Place.{Place}
 
@@ -31,7 +33,7 @@ unfoldable pub noticeSpoils : Sheet → Sheet → ℕ → Bool
 noticeSpoils a b m = noticesDiffer a b m or overAt a b m
 
 -- two examined sheets
-pub record Both (a b : Bytes) : Type 0 where
+pub record TwoSheets (a b : Bytes) : Type 0 where
   pub one : isSheet a ≡ true
   pub two : isSheet b ≡ true
 
@@ -51,11 +53,6 @@ pub record Ahead (a b : Bytes) (p : Place) : Type 0 where
 abbrev pub BothLeft : Bytes → Bytes → Place → Type 0
 BothLeft a b p = (p.i < length (sheetIn a .sets)) × (p.j < length (sheetIn b .sets))
 
--- the next set is the first sheet's, or else the second's
-abbrev pub Taken : Bytes → Bytes → Place → Bool → Type 0
-Taken a b p true = (p.i < length (sheetIn a .sets)) × (nextAt (sheetIn a) (sheetIn b) p ≡ setAt (sheetIn a) p.i)
-Taken a b p false = (p.j < length (sheetIn b .sets)) × (nextAt (sheetIn a) (sheetIn b) p ≡ setAt (sheetIn b) p.j)
-
 -- an entry has a set's numbers
 pub record Numbers (w : WriteSet) (e : Entry) : Type 0 where
   pub csn : e.csn ≡ w.csn
@@ -66,13 +63,18 @@ pub record Numbers (w : WriteSet) (e : Entry) : Type 0 where
 pub record Advanced (a b : Bytes) (p q : Place) : Type 0 where
   pub first : q.i ≤ length (sheetIn a .sets)
   pub second : q.j ≤ length (sheetIn b .sets)
-  pub passed : behind (sheetIn a) (sheetIn b) p ≡ nextAt (sheetIn a) (sheetIn b) p ∷ behind (sheetIn a) (sheetIn b) q
+  pub leaves : behind (sheetIn a) (sheetIn b) p ≡ nextAt (sheetIn a) (sheetIn b) p ∷ behind (sheetIn a) (sheetIn b) q
   pub apart : BothLeft a b p → clash (setAt (sheetIn a) p.i) (setAt (sheetIn b) p.j) ≡ false
       → someTwo clash (unpassed (sheetIn a) (sheetIn b) p) ≡ someTwo clash (unpassed (sheetIn a) (sheetIn b) q)
 
--- the distinct sets of two sheets are n, at most 64, and a buffer has room for any sheet
-pub record Room (a b : Bytes) (n : ℕ) (out : Bytes) : Type 0 where
-  pub sheets : Both a b
-  pub count : n ≡ length (together (sheetIn a) (sheetIn b))
-  pub few : n ≤ maxSets
-  pub room : sheetRoom ≤ length out
+-- the place behind the next set, by the sheet that it is taken from
+unfoldable pub passed : Place → Next → Place
+passed p next.First = record { i = p.i + 1; j = p.j }
+passed p next.Second = record { i = p.i; j = p.j + 1 }
+passed p next.Both = record { i = p.i + 1; j = p.j + 1 }
+
+-- from which sheet the next set is taken: that sheet has it, and where both have one its csn is the smaller; it is the next, and passing it leaves the others
+pub record Decided (a b : Bytes) (p : Place) (n : Next) : Type 0 where
+  pub chosen : Chosen n (sheetIn a) p.i (sheetIn b) p.j
+  pub next : nextAt (sheetIn a) (sheetIn b) p ≡ taken n (setAt (sheetIn a) p.i) (setAt (sheetIn b) p.j)
+  pub passes : Advanced a b p (passed p n)

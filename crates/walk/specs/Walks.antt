@@ -1,85 +1,42 @@
--- A whole walk over two sheets: where it starts, what one turn passes, and that nothing is left at its end.
-use Prim.Native.Nat.{ℕ, _+_, _%_, _≤_}
+-- What every walk over two sheets uses: where it starts, what a turn leaves behind, and that places stay small.
+use Prim.Native.Nat.{ℕ, _+_, _<_, _≤_}
 use mathlib.Core.Path.{_≡_, refl, sym, _∙_, ap}
-use mathlib.Core.Bool.{Bool, true, false}
-use mathlib.Core.List.{List, [], _∷_, _++_}
+use mathlib.Core.List.{List, _∷_}
+use native.Mathlib.Numerals.{add-one}
 use native.Mathlib.Omega.{arith}
-use native.Mathlib.Decide.{ℕ-discrete}
-use borrow.Author.Tests.{ltb-true, ltb-false, eq-eqb, ne-eqb}
-use lib.ListN.{length, length-append}
-use lib.Dec.{ltb}
+use lib.ListN.{length, getD, drop}
+use lib.Seq.{drop-cons}
 use Rattle.words.specs.Words.{Bytes}
-use Rattle.rules.specs.Lists.{keep, count}
-use Rattle.rules.specs.Sheet.{WriteSet, Sheet, sheetIn, setsOf}
-use Rattle.laws.specs.Merging.{distinct-le}
+use Rattle.rules.specs.Sheet.{WriteSet, Sheet, maxSets}
 use Rattle.laws.specs.Joining.{together}
-use Rattle.sheets.specs.SheetPlaces.{few-sets}
+use Rattle.sheets.specs.declared.reading.Next.{Next}
+use Rattle.sheets.specs.SheetReadings.{noSet}
+use Rattle.sheets.specs.SheetSizes.{few-sets}
 use Rattle.walk.specs.declared.place.Place.{Place}
-use Rattle.walk.specs.Walk.{unpassed, behind, nextAt, Both, At, Ahead, Advanced}
+use Rattle.walk.specs.Walk.{unpassed, behind, passed, TwoSheets, At, Advanced, Decided}
+
+-- a list from set i on
+pub from : (xs : List WriteSet) (i : ℕ) → i < length xs → drop i xs ≡ getD xs i noSet ∷ drop (i + 1) xs
+from xs i h = drop-cons xs i noSet h ∙ ap (λ (k : ℕ). getD xs i noSet ∷ drop k xs) (sym (add-one i))
 
 -- before all sets of both
-abbrev start : Place
+abbrev pub start : Place
 start = record { i = 0; j = 0 }
 
-pub start-at : (a b : Bytes) → Both a b → At a b start
+pub start-at : (a b : Bytes) → TwoSheets a b → At a b start
 start-at a b k = record { one = k .one; two = k .two; first = omega arith; second = omega arith }
 
 pub start-behind : (a b : Sheet) → behind a b start ≡ together a b
 unfolding behind unpassed together
 start-behind a b = refl
 
-pub start-unpassed : (a b : Sheet) → a.sets ++ b.sets ≡ unpassed a b start
-unfolding unpassed
-start-unpassed a b = refl
+-- so that advancing does not overflow
+pub near : (a b : Bytes) (p : Place) → At a b p → (p.i ≤ maxSets) × (p.j ≤ maxSets)
+near a b p k = (omega (arith, k .first, few-sets a (k .one)), omega (arith, k .second, few-sets b (k .two)))
 
--- there are at most 128 sets
-pub together-few : (a b : Bytes) → Both a b → length (together (sheetIn a) (sheetIn b)) ≤ 128
-unfolding together
-together-few a b k =
-    omega (
-      arith,
-      distinct-le (sheetIn a .sets ++ sheetIn b .sets),
-      length-append (sheetIn a .sets) (sheetIn b .sets),
-      few-sets a (k .one),
-      few-sets b (k .two),
-    )
+-- what advancing by a decision passes
+pub moved : (a b : Bytes) {p q : Place} {n : Next} → Decided a b p n → q ≡ passed p n → Advanced a b p q
+moved a b d e = rw e (d .passes)
 
--- what `more` said
-pub ahead : (a b : Bytes) (p : Place) (t : Bool) → At a b p → t ≡ ltb 0 (length (behind (sheetIn a) (sheetIn b) p)) → t ≡ true → Ahead a b p
-ahead a b p t k e h = record { at = k; some = ltb-true 0 _ (sym e ∙ h) }
-
-pub spent : (a b : Bytes) (p : Place) (t : Bool) → t ≡ ltb 0 (length (behind (sheetIn a) (sheetIn b) p)) → t ≡ false → length (behind (sheetIn a) (sheetIn b) p) ≤ 0
-spent a b p t e h = ltb-false 0 _ (sym e ∙ h)
-
--- the sets of one master
-
-sets-yes : (m : ℕ) (w : WriteSet) (ws : List WriteSet) → w.csn % 16 ≡ m → setsOf m (w ∷ ws) ≡ 1 + setsOf m ws
-unfolding setsOf count keep
-sets-yes m w ws e = rw (eq-eqb (w.csn % 16) m e) (omega arith)
-
-sets-no : (m : ℕ) (w : WriteSet) (ws : List WriteSet) → (w.csn % 16 ≡ m → ⊥) → setsOf m (w ∷ ws) ≡ setsOf m ws
-unfolding setsOf count keep
-sets-no m w ws h = rw (ne-eqb (w.csn % 16) m h)
-
-pub sets-le : (m : ℕ) (ws : List WriteSet) → setsOf m ws ≤ length ws
-unfolding setsOf count keep
-sets-le m [] = omega arith
-sets-le m (w ∷ ws) =
-    elim (ℕ-discrete (w.csn % 16) m) [
-      | yes e ↦ rw (sets-yes m w ws e) (omega (arith, sets-le m ws))
-      | no h ↦ rw (sets-no m w ws h) (omega (arith, sets-le m ws))
-    ]
-
--- one turn
-module _ {a b : Bytes} {p q : Place} (n : Advanced a b p q) where
-  pub on : At a b p → At a b q
-  on k = record { one = k .one; two = k .two; first = n .first; second = n .second }
-
-  pub shorter : length (behind (sheetIn a) (sheetIn b) p) ≡ 1 + length (behind (sheetIn a) (sheetIn b) q)
-  shorter = ap length (n .passed) ∙ omega arith
-
-  pub counted : (m : ℕ) → nextAt (sheetIn a) (sheetIn b) p .csn % 16 ≡ m → setsOf m (behind (sheetIn a) (sheetIn b) p) ≡ 1 + setsOf m (behind (sheetIn a) (sheetIn b) q)
-  counted m e = ap (setsOf m) (n .passed) ∙ sets-yes m (nextAt (sheetIn a) (sheetIn b) p) (behind (sheetIn a) (sheetIn b) q) e
-
-  pub uncounted : (m : ℕ) → (nextAt (sheetIn a) (sheetIn b) p .csn % 16 ≡ m → ⊥) → setsOf m (behind (sheetIn a) (sheetIn b) p) ≡ setsOf m (behind (sheetIn a) (sheetIn b) q)
-  uncounted m h = ap (setsOf m) (n .passed) ∙ sets-no m (nextAt (sheetIn a) (sheetIn b) p) (behind (sheetIn a) (sheetIn b) q) h
+pub on : {a b : Bytes} {p q : Place} → Advanced a b p q → At a b p → At a b q
+on n k = record { one = k .one; two = k .two; first = n .first; second = n .second }

@@ -1,18 +1,20 @@
 // Whether two different sets of two sheets share a csn. Equal sets do not clash.
+use crate::next::next_from;
 use crate::place::Place;
 use crate::place::advance;
+use forms::Next;
 use forms::body;
 use forms::set_count;
-use forms::set_csn;
 use forms::set_sen;
 ghost use mathlib.Core.Path.{_≡_};
-ghost use mathlib.Core.Bool.{true};
 ghost use mathlib.Core.List.{_++_};
+ghost use Prim.Native.Nat.{_<_};
+ghost use lib.ListN.{length};
 ghost use Rattle.rules.specs.Lists.{same};
 ghost use Rattle.rules.specs.Sheet.{sheetIn};
-ghost use Rattle.rules.specs.Gathering.{sameSet, clash, someTwo};
+ghost use Rattle.rules.specs.Gathering.{clash, someTwo};
 ghost use Rattle.sheets.specs.SheetReadings.{setAt};
-ghost use Rattle.walk.specs.Walk.{Both, BothLeft, At};
+ghost use Rattle.walk.specs.Walk.{TwoSheets, BothLeft, At, Decided};
 
 fn same_bytes(s: &[u8], t: &[u8]) -> bool
     ensures { λ r. ⌜ r ≡ same (now (s .entry)) (now (t .entry)) ⌝ }
@@ -30,45 +32,42 @@ fn same_bytes(s: &[u8], t: &[u8]) -> bool
     true
 }
 
-// The first sets behind the place, one of each sheet, are equal in all fields.
-fn same_set(a: &[u8], b: &[u8], p: Place) -> bool
-    requires { ⌜ (At (now a) (now b) p) × (BothLeft (now a) (now b) p) ⌝ }
-    ensures { λ r. ⌜ r ≡ sameSet (setAt (sheetIn (now (a .entry))) (p .i)) (setAt (sheetIn (now (b .entry))) (p .j)) ⌝ }
+// Two sets of one csn are not equal in all fields.
+fn differ(a: &[u8], i: usize, b: &[u8], j: usize) -> bool
+    requires { ⌜ (TwoSheets (now a) (now b)) × (i < length (sheetIn (now a) .sets)) × (j < length (sheetIn (now b) .sets)) × (setAt (sheetIn (now a)) i .csn ≡ setAt (sheetIn (now b)) j .csn) ⌝ }
+    ensures { λ r. ⌜ r ≡ clash (setAt (sheetIn (now (a .entry))) i) (setAt (sheetIn (now (b .entry))) j) ⌝ }
 {
-    let i = p.i;
-    let j = p.j;
-    if set_csn(a, i) != set_csn(b, j) {
-        return false;
-    }
     if set_sen(a, i) != set_sen(b, j) {
-        return false;
+        return true;
     }
-    same_bytes(body(a, i), body(b, j))
+    !same_bytes(body(a, i), body(b, j))
 }
 
-// They are different sets of one csn.
-fn clash_at(a: &[u8], b: &[u8], p: Place) -> bool
-    requires { ⌜ (At (now a) (now b) p) × (BothLeft (now a) (now b) p) ⌝ }
+// The first sets behind the place, one of each sheet, clash: no two of different csns do.
+fn clash_at(a: &[u8], b: &[u8], p: Place, next: Next) -> bool
+    requires { ⌜ (At (now a) (now b) p) × (BothLeft (now a) (now b) p) × (Decided (now a) (now b) p next) ⌝ }
     ensures { λ r. ⌜ r ≡ clash (setAt (sheetIn (now (a .entry))) (p .i)) (setAt (sheetIn (now (b .entry))) (p .j)) ⌝ }
 {
-    if set_csn(a, p.i) != set_csn(b, p.j) {
-        return false;
+    match next {
+        Next::First => false,
+        Next::Second => false,
+        Next::Both => differ(a, p.i, b, p.j),
     }
-    !same_set(a, b, p)
 }
 
 pub fn clashes(a: &[u8], b: &[u8]) -> bool
-    requires { ⌜ Both (now a) (now b) ⌝ }
+    requires { ⌜ TwoSheets (now a) (now b) ⌝ }
     ensures { λ r. ⌜ r ≡ someTwo clash (sheetIn (now (a .entry)) .sets ++ sheetIn (now (b .entry)) .sets) ⌝ }
 {
     let n = set_count(a);
     let m = set_count(b);
     let mut p = Place { i: 0, j: 0 };
     while p.i < n && p.j < m {
-        if clash_at(a, b, p) {
+        let next = next_from(a, b, p);
+        if clash_at(a, b, p, next) {
             return true;
         }
-        p = advance(a, b, p);
+        p = advance(p, next);
     }
     false
 }

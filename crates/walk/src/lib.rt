@@ -8,7 +8,7 @@ mod spoil;
 
 pub use counts::count;
 pub use next::next_entry;
-pub use next::next_records;
+pub use next::next_from;
 pub use notices::notice_together;
 pub use place::Place;
 pub use place::advance;

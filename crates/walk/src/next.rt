@@ -1,7 +1,6 @@
-// The next set behind a place in two sheets: its numbers and its body, read from the sheet that it is taken from.
+// The next set behind a place in two sheets: from which sheet it is taken is decided here, once a turn, and its numbers are read by that.
 use crate::place::Place;
-use forms::body;
-use forms::next_body;
+use forms::Next;
 use forms::record_count;
 use forms::set_count;
 use forms::set_csn;
@@ -10,9 +9,9 @@ ghost use mathlib.Core.Path.{_≡_};
 ghost use mathlib.Core.Bool.{true};
 ghost use Prim.Native.Nat.{_<_};
 ghost use lib.ListN.{length};
-ghost use Rattle.rules.specs.Sheet.{isSheet, sheetIn, recordsBytes};
+ghost use Rattle.rules.specs.Sheet.{isSheet, sheetIn};
 ghost use Rattle.sheets.specs.SheetReadings.{setAt};
-ghost use Rattle.walk.specs.Walk.{nextAt, Ahead, Taken, Numbers};
+ghost use Rattle.walk.specs.Walk.{nextAt, At, Ahead, Numbers, Decided};
 
 // What the contents say of a set: its numbers and how many records it has.
 pub struct Entry {
@@ -21,23 +20,28 @@ pub struct Entry {
     pub count: usize,
 }
 
-// The next set is taken from the first sheet: the second has none left, or the first's has the smaller csn.
-fn from_first(a: &[u8], b: &[u8], p: Place) -> bool
+// From the sheet with the smaller csn, or from the one that has a set left.
+pub fn next_from(a: &[u8], b: &[u8], p: Place) -> Next
     requires { ⌜ Ahead (now a) (now b) p ⌝ }
-    ensures { λ r. ⌜ Taken (now (a .entry)) (now (b .entry)) p r ⌝ }
+    ensures { λ r. ⌜ Decided (now (a .entry)) (now (b .entry)) p r ⌝ }
 {
     let i = p.i;
     let j = p.j;
     if j == set_count(b) {
-        return true;
+        return Next::First;
     }
     if i == set_count(a) {
-        return false;
+        return Next::Second;
     }
-    if set_csn(a, i) < set_csn(b, j) {
-        return true;
+    let x = set_csn(a, i);
+    let y = set_csn(b, j);
+    if x < y {
+        return Next::First;
     }
-    false
+    if y < x {
+        return Next::Second;
+    }
+    Next::Both
 }
 
 // The numbers of set i of one sheet.
@@ -52,28 +56,14 @@ fn entry_at(s: &[u8], i: usize) -> Entry
     }
 }
 
-pub fn next_entry(a: &[u8], b: &[u8], p: Place) -> Entry
-    requires { ⌜ Ahead (now a) (now b) p ⌝ }
+// The numbers of the next set.
+pub fn next_entry(a: &[u8], b: &[u8], p: Place, next: Next) -> Entry
+    requires { ⌜ (At (now a) (now b) p) × (Decided (now a) (now b) p next) ⌝ }
     ensures { λ r. ⌜ Numbers (nextAt (sheetIn (now (a .entry))) (sheetIn (now (b .entry))) p) r ⌝ }
 {
-    if from_first(a, b, p) {
-        return entry_at(a, p.i);
+    match next {
+        Next::First => entry_at(a, p.i),
+        Next::Second => entry_at(b, p.j),
+        Next::Both => entry_at(b, p.j),
     }
-    entry_at(b, p.j)
-}
-
-// Where both sheets have a set, the forms hand back the body of the one with the smaller csn.
-pub fn next_records<'a>(a: &'a [u8], b: &'a [u8], p: Place) -> &'a [u8]
-    requires { ⌜ Ahead (now a) (now b) p ⌝ }
-    ensures { λ r. ⌜ now r ≡ recordsBytes (nextAt (sheetIn (now (a .entry))) (sheetIn (now (b .entry))) p .records) ⌝ }
-{
-    let i = p.i;
-    let j = p.j;
-    if j == set_count(b) {
-        return body(a, i);
-    }
-    if i == set_count(a) {
-        return body(b, j);
-    }
-    next_body(a, i, b, j)
 }

@@ -1,5 +1,6 @@
 // The notices of two sheets together: what each master noticed, and whether one has two different notices or more sets than it noticed.
 use crate::counts::sets_of;
+use forms::MASTERS;
 use forms::notice;
 use rules::NO_NOTICE;
 ghost use mathlib.Core.Path.{_≡_};
@@ -7,11 +8,12 @@ ghost use Prim.Native.Nat.{_<_};
 ghost use Rattle.rules.specs.Lists.{any};
 ghost use Rattle.rules.specs.Sheet.{sheetIn, masters};
 ghost use Rattle.laws.specs.Joining.{noticeTogether, noticesDiffer, overAt};
-ghost use Rattle.walk.specs.Walk.{noticeSpoils, Both};
+ghost use Rattle.sheets.specs.SheetReadings.{masterCount};
+ghost use Rattle.walk.specs.Walk.{noticeSpoils, TwoSheets};
 
 // The smaller one: no notice is the largest byte.
 pub fn notice_together(a: &[u8], b: &[u8], m: usize) -> u8
-    requires { ⌜ (Both (now a) (now b)) × (m < 16) ⌝ }
+    requires { ⌜ (TwoSheets (now a) (now b)) × (m < masterCount) ⌝ }
     ensures { λ r. ⌜ r ≡ noticeTogether (sheetIn (now (a .entry))) (sheetIn (now (b .entry))) m ⌝ }
 {
     let x = notice(a, m);
@@ -23,7 +25,7 @@ pub fn notice_together(a: &[u8], b: &[u8], m: usize) -> u8
 }
 
 fn differ_at(a: &[u8], b: &[u8], m: usize) -> bool
-    requires { ⌜ (Both (now a) (now b)) × (m < 16) ⌝ }
+    requires { ⌜ (TwoSheets (now a) (now b)) × (m < masterCount) ⌝ }
     ensures { λ r. ⌜ r ≡ noticesDiffer (sheetIn (now (a .entry))) (sheetIn (now (b .entry))) m ⌝ }
 {
     let x = notice(a, m);
@@ -38,7 +40,7 @@ fn differ_at(a: &[u8], b: &[u8], m: usize) -> bool
 }
 
 fn over_at(a: &[u8], b: &[u8], m: usize) -> bool
-    requires { ⌜ (Both (now a) (now b)) × (m < 16) ⌝ }
+    requires { ⌜ (TwoSheets (now a) (now b)) × (m < masterCount) ⌝ }
     ensures { λ r. ⌜ r ≡ overAt (sheetIn (now (a .entry))) (sheetIn (now (b .entry))) m ⌝ }
 {
     let x = notice_together(a, b, m);
@@ -50,11 +52,11 @@ fn over_at(a: &[u8], b: &[u8], m: usize) -> bool
 
 // One walk over the masters for both reasons.
 pub fn notices_spoil(a: &[u8], b: &[u8]) -> bool
-    requires { ⌜ Both (now a) (now b) ⌝ }
+    requires { ⌜ TwoSheets (now a) (now b) ⌝ }
     ensures { λ r. ⌜ r ≡ any (noticeSpoils (sheetIn (now (a .entry))) (sheetIn (now (b .entry)))) masters ⌝ }
 {
     let mut m: usize = 0;
-    while m < 16 {
+    while m < MASTERS {
         if differ_at(a, b, m) {
             return true;
         }

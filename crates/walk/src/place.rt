@@ -1,11 +1,12 @@
-// A place in two sheets that are walked together: the next set is the one with the smaller csn, and a set of both is passed in both.
+// A place in two sheets that are walked together: a set of both is passed in both.
+use forms::Next;
 use forms::set_count;
-use forms::set_csn;
 ghost use mathlib.Core.Path.{_≡_};
+ghost use Prim.Native.Nat.{_≤_};
 ghost use lib.Dec.{ltb};
 ghost use lib.ListN.{length};
-ghost use Rattle.rules.specs.Sheet.{sheetIn};
-ghost use Rattle.walk.specs.Walk.{behind, At, Ahead, Advanced};
+ghost use Rattle.rules.specs.Sheet.{maxSets, sheetIn};
+ghost use Rattle.walk.specs.Walk.{behind, passed, At};
 
 // How many sets of each sheet are passed.
 pub struct Place {
@@ -28,25 +29,16 @@ pub fn more(a: &[u8], b: &[u8], p: Place) -> bool
 }
 
 // The place behind the next set.
-pub fn advance(a: &[u8], b: &[u8], p: Place) -> Place
-    requires { ⌜ Ahead (now a) (now b) p ⌝ }
-    ensures { λ r. ⌜ Advanced (now (a .entry)) (now (b .entry)) p r ⌝ }
+pub fn advance(p: Place, next: Next) -> Place
+    requires { ⌜ (p .i ≤ maxSets) × (p .j ≤ maxSets) ⌝ }
+    ensures { λ r. ⌜ r ≡ passed p next ⌝ }
 {
-    let i = p.i;
-    let j = p.j;
-    if j == set_count(b) {
-        return Place { i: i + 1, j };
+    match next {
+        Next::First => Place { i: p.i + 1, j: p.j },
+        Next::Second => Place { i: p.i, j: p.j + 1 },
+        Next::Both => Place {
+            i: p.i + 1,
+            j: p.j + 1,
+        },
     }
-    if i == set_count(a) {
-        return Place { i, j: j + 1 };
-    }
-    let x = set_csn(a, i);
-    let y = set_csn(b, j);
-    if x < y {
-        return Place { i: i + 1, j };
-    }
-    if y < x {
-        return Place { i, j: j + 1 };
-    }
-    Place { i: i + 1, j: j + 1 }
 }

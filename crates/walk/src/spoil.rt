@@ -6,10 +6,10 @@ use rules::MAX_SETS;
 ghost use mathlib.Core.Path.{_≡_};
 ghost use Rattle.rules.specs.Sheet.{sheetIn};
 ghost use Rattle.laws.specs.Joining.{joinSpoils};
-ghost use Rattle.walk.specs.Walk.{Both};
+ghost use Rattle.walk.specs.Walk.{TwoSheets};
 
 pub fn spoils(a: &[u8], b: &[u8]) -> bool
-    requires { ⌜ Both (now a) (now b) ⌝ }
+    requires { ⌜ TwoSheets (now a) (now b) ⌝ }
     ensures { λ r. ⌜ r ≡ joinSpoils (sheetIn (now (a .entry))) (sheetIn (now (b .entry))) ⌝ }
 {
     if clashes(a, b) {

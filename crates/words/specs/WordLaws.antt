@@ -8,7 +8,7 @@ use native.Mathlib.Omega.{arith}
 use lib.Arith.{mod-mul}
 use lib.Dec.{lit<}
 use lib.ListN.{length, getD, set, take, drop, length-set, length-take, length-drop}
-use lib.Seq.{sets-eq, length-sets, getD-set-same, getD-set-other, getD-drop, drop-cons, paste}
+use lib.Seq.{sets-eq, length-sets, getD-set-same, getD-set-other, getD-drop, drop-cons, paste, take-all}
 use Rattle.words.specs.Words.{Bytes, le, word, part, stored}
 
 -- ---- reading
@@ -145,6 +145,11 @@ word-fits (suc n) s at b = rw pow-suc (omega (arith, b at, word-fits n s (suc at
 pub part-length : (s : Bytes) (at n : ℕ) → at + n ≤ length s → length (part s at n) ≡ n
 unfolding part
 part-length s at n h = simp (length-take, length-drop) (omega arith)
+
+-- a part that is the whole
+pub whole-part : (l : Bytes) → part l 0 (length l) ≡ l
+unfolding part
+whole-part l = take-all (length l) l (omega arith)
 
 -- a copy of n bytes is a store of them
 pub copied : (d : Bytes) (at : ℕ) (s : Bytes) (from n : ℕ) → at + n ≤ length d → from + n ≤ length s → paste d at (drop from s) n ≡ stored d at (part s from n)

@@ -4,6 +4,10 @@ use borrow.Author.Needs.{needs}
 use Rattle.words.proofs.put32.Statement.{statement}
 use Rattle.words.proofs.put32.Tie as tie
 
+-- where the low half stands
+abbrev low : tie.After-slice-known3 → tie.After-put16
+low c = c .before .before .before .before .before .before
+
 cast-put16 : tie.Need-cast-put16
 cast-put16 c = search needs
 
@@ -23,7 +27,7 @@ same-length : tie.Need-same-length
 same-length c = search needs
 
 returns : tie.Need-returns
-returns c = halves 2 _ _ _ _ _ (c .before .before .before .before .before .before .put16 .ensures) (c .before .before .put162 .ensures)
+returns c = halves 2 _ _ _ _ _ (low c .put16 .ensures) (c .before .before .put162 .ensures)
 
 pub put32-spec : {M : Type 1} → statement M
 put32-spec =

@@ -4,6 +4,10 @@ use borrow.Author.Needs.{needs}
 use Rattle.words.proofs.put64.Statement.{statement}
 use Rattle.words.proofs.put64.Tie as tie
 
+-- where the low half stands
+abbrev low : tie.After-slice-known3 → tie.After-put32
+low c = c .before .before .before .before .before .before
+
 cast-put32 : tie.Need-cast-put32
 cast-put32 c = search needs
 
@@ -23,7 +27,7 @@ same-length : tie.Need-same-length
 same-length c = search needs
 
 returns : tie.Need-returns
-returns c = halves 4 _ _ _ _ _ (c .before .before .before .before .before .before .put32 .ensures) (c .before .before .put322 .ensures)
+returns c = halves 4 _ _ _ _ _ (low c .put32 .ensures) (c .before .before .put322 .ensures)
 
 pub put64-spec : {M : Type 1} → statement M
 put64-spec =

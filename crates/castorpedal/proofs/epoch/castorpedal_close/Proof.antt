@@ -4,11 +4,15 @@ use borrow.Author.Needs.{needs}
 use Rattle.castorpedal.proofs.epoch.castorpedal_close.Statement.{statement}
 use Rattle.castorpedal.proofs.epoch.castorpedal_close.Tie as tie
 
+-- the walk's station: closing, from where its buffers are had back
+abbrev closing : tie.After-slice-known4 → tie.After-close
+closing c = c .before .before .before .before
+
 close-requires : tie.Need-close-requires
 close-requires c κs = search needs
 
 closed-requires : tie.Need-closed-requires
-closed-requires c κs = let w = c .before .before .before .before .close in within-closed _ (w .result) (w .ensures .answered) (close-fits _ _ _ _)
+closed-requires c κs = let w = closing c .close in within-closed _ (w .result) (w .ensures .answered) (close-fits _ _ _ _)
 
 same-length : tie.Need-same-length
 same-length c = search needs
@@ -17,7 +21,7 @@ same-length-2 : tie.Need-same-length-2
 same-length-2 c = search needs
 
 returns : tie.Need-returns
-returns c = kept-close _ _ _ (c .before .before .before .before .before .close .ensures) (c .closed .ensures)
+returns c = kept-close _ _ _ (closing (c .before) .close .ensures) (c .closed .ensures)
 
 pub castorpedal-close-spec : {M : Type 1} → statement M
 castorpedal-close-spec =

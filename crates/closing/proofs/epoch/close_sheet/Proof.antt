@@ -8,6 +8,16 @@ use borrow.Author.Needs.{needs}
 use Rattle.closing.proofs.epoch.close_sheet.Statement.{statement}
 use Rattle.closing.proofs.epoch.close_sheet.Tie as tie
 
+-- the walk's stations: the three tests passed, and the start
+abbrev epoch-tested : tie.Else2 → tie.Else1
+epoch-tested c = c .before .before
+
+abbrev start : tie.Else1 → tie.Start
+start c = c .before .before .before .before .before .before
+
+abbrev passed : tie.After-slice-known4 → tie.Else3
+passed c = c .before .before .before .before .before .before .before
+
 follows-requires : tie.Need-follows-requires
 follows-requires c κs = search needs
 
@@ -26,13 +36,14 @@ complete-requires c κs = search needs
 returns-3 : tie.Need-returns-3
 returns-3 c =
     refuses-closing _ _ _ _
-    (sheet-7 _ _ _ _ (said-yes (c .before .before .before .before .before .follows .ensures) (c .before .before .before .before .if1 .left))
-    (sym (c .before .before .before .is-spoiled .ensures) ∙ c .before .before .if2 .left) (said-no (c .before .complete .ensures) (c .if3 .taken)))
+    (let s = c .before .before in
+    let e = epoch-tested s in
+    sheet-7 _ _ _ _ (said-yes (e .before .follows .ensures) (e .if1 .left)) (sym (s .before .is-spoiled .ensures) ∙ s .if2 .left) (said-no (c .before .complete .ensures) (c .if3 .taken)))
 
 close-complete-requires : tie.Need-close-complete-requires
 close-complete-requires c κs =
-    let b = c .before .before .before .before .before .before .before .before .before .before .before .before in
-    (b .pre .0, b .pre .1, eqb-true _ _ (said-yes (c .before .before .before .before .before .before .before .follows .ensures) (c .before .before .before .before .before .before .if1 .left)))
+    let e = epoch-tested (c .before .before .before .before) in
+    (start e .pre .0, start e .pre .1, eqb-true _ _ (said-yes (e .before .follows .ensures) (e .if1 .left)))
 
 same-length : tie.Need-same-length
 same-length c = search needs
@@ -42,9 +53,11 @@ same-length-2 c = search needs
 
 returns-4 : tie.Need-returns-4
 returns-4 c =
+    let k = passed c in
+    let s = k .before .before in
+    let e = epoch-tested s in
     alike
-    (sheet-on _ _ _ _ (said-yes (c .before .before .before .before .before .before .before .before .before .before .before .before .follows .ensures) (c .before .before .before .before .before .before .before .before .before .before .before .if1 .left)) (sym (c .before .before .before .before .before .before .before .before .before .before .is-spoiled .ensures) ∙ c .before .before .before .before .before .before .before .before .before .if2 .left)
-    (said-yes (c .before .before .before .before .before .before .before .before .complete .ensures) (c .before .before .before .before .before .before .before .if3 .left)))
+    (sheet-on _ _ _ _ (said-yes (e .before .follows .ensures) (e .if1 .left)) (sym (s .before .is-spoiled .ensures) ∙ s .if2 .left) (said-yes (k .before .complete .ensures) (k .if3 .left)))
     (c .before .before .before .before .close-complete .ensures)
 
 pub close-sheet-spec : {M : Type 1} → statement M

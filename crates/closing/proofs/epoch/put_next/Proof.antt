@@ -1,35 +1,54 @@
--- The head, and the rows behind it.
+-- Begun for as many rows as the next register has, and ended once they are put.
 use mathlib.Core.Path.{_∙_}
-use denote.Ref.{now}
-use Rattle.rules.specs.Register.{registerIn}
-use Rattle.rules.specs.Sheet.{sheetIn}
-use Rattle.rules.specs.Closing.{next}
-use Rattle.closing.proofs.CloseLaws.{head-and-rows}
+use native.Mathlib.Omega.{arith}
+use Rattle.registers.specs.RegisterWritten.{length-fits}
+use Rattle.closing.proofs.CloseLaws.{next-fits, next-stands}
 use borrow.Author.Needs.{needs}
 use Rattle.closing.proofs.epoch.put_next.Statement.{statement}
 use Rattle.closing.proofs.epoch.put_next.Tie as tie
 
+-- the walk's start
+abbrev entered : tie.After-epoch → tie.Start
+entered c = c .before .before .before .before .before .before .before
+
+abbrev start : tie.After-start-register → tie.Start
+start c = entered (c .before)
+
 epoch-requires : tie.Need-epoch-requires
 epoch-requires c κs = search needs
 
-put-register-head-requires : tie.Need-put-register-head-requires
-put-register-head-requires c κs = search needs
+start-register-requires : tie.Need-start-register-requires
+start-register-requires c κs =
+    let s = entered c in (s .pre .3, omega (arith, s .pre .4, length-fits _ (s .pre .3)))
 
 put-rows-requires : tie.Need-put-rows-requires
-put-rows-requires c κs = search needs
+put-rows-requires c κs =
+    let b = c .before .before .before in
+    let p = start b .pre in
+    let e = b .start-register .ensures in
+    (p .0, next-fits _ _ (omega (arith, p .2, p .3)) _ (p .4) (e .0 ∙ p .2) (e .1))
+
+finish-register-requires : tie.Need-finish-register-requires
+finish-register-requires c κs =
+    let w = c .before .before in
+    let b = w .before .before .before .before in
+    let p = start b .pre in
+    let e = b .start-register .ensures in
+    let q = w .put-rows .ensures in
+    (omega (arith, q .same, e .0, p .3), omega (arith, q .same, q .put, e .0, e .1 .put, p .2))
 
 same-length : tie.Need-same-length
 same-length c = search needs
 
 returns : tie.Need-returns
-unfolding next
 returns c =
-    let b = c .before .before .before .before .before .before .before .before .before .before .before .before .before .before in
-    head-and-rows (next (registerIn (now (b .args .register))) (sheetIn (now (b .args .sheet)))) (now (b .args .out)) _ (b .args .n)
-    (c .before .before .before .before .before .before .before .epoch .ensures ∙ b .pre .1) (b .pre .2)
-    (c .before .before .before .before .before .before .put-register-head .ensures) (c .before .before .put-rows .ensures)
+    let w = c .before .before .before in
+    let b = w .before .before .before .before in
+    let p = start b .pre in
+    let e = b .start-register .ensures in
+    next-stands _ _ (omega (arith, p .2, p .3)) _ (b .before .epoch .ensures ∙ p .1) (p .4) (e .0 ∙ p .2) (e .1) (w .put-rows .ensures) (c .finish-register .ensures)
 
 pub put-next-spec : {M : Type 1} → statement M
 put-next-spec =
     tie.close
-    (tie.spec epoch-requires put-register-head-requires put-rows-requires same-length returns)
+    (tie.spec epoch-requires start-register-requires put-rows-requires finish-register-requires same-length returns)

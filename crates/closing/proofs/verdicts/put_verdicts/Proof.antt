@@ -1,49 +1,53 @@
--- The verdicts of the sets before set i are written.
+-- The verdicts of the sets before set i are put.
 use Prim.Native.Nat.{_-_, _≤_, _<_}
-use mathlib.Core.Path.{_≡_, refl, _∙_, ap, ap₂}
+use mathlib.Core.Path.{_≡_, refl, _∙_, ap₂}
 use native.Mathlib.Omega.{arith}
 use denote.Ref.{now}
 use lib.ListN.{length}
-use borrow.Author.Needs.{needs}
-use Rattle.words.specs.Words.{stored}
-use Rattle.words.specs.WordLaws.{length-stored}
-use Rattle.rules.specs.Lists.{flat}
 use Rattle.rules.specs.Register.{Register}
-use Rattle.rules.specs.Sheet.{sheetIn}
-use Rattle.rules.specs.Refused.{verdictBytes}
-use Rattle.sheets.specs.SheetPlaces.{few-sets}
-use Rattle.judging.specs.Judged.{wrongKey, lostKey, Tells, verdictBy}
-use Rattle.sheets.specs.SheetMembers.{records-sound}
+use Rattle.rules.specs.Sheet.{maxSets, sheetIn}
+use Rattle.laws.specs.SheetLaws.{sheet-sound}
+use Rattle.sheets.specs.SheetReadings.{setAt}
+use Rattle.sheets.specs.SheetSizes.{few-sets}
+use Rattle.forms.specs.VerdictWriting.{VerdictsPut}
+use Rattle.judging.specs.Tables.{wrongKey, lostKey, Tells}
+use Rattle.judging.specs.TableLaws.{wrong-told, lost-told}
+use Rattle.closing.specs.Outcome.{verdictBy}
 use Rattle.closing.proofs.VerdictLaws.{verdict-by, firstVerdicts, verdicts-start, verdicts-step, verdicts-end}
+use borrow.Author.Needs.{needs}
 use Rattle.closing.proofs.verdicts.put_verdicts.Statement.{statement}
 use Rattle.closing.proofs.verdicts.put_verdicts.Tie as tie
 
 abbrev Inv-loop : tie.InvT-loop
 Inv-loop sheet wrong lost out₀ n i₀ out i =
-    (i ≤ n) × (n ≤ 64) × (length out ≡ length out₀)
+    (i ≤ n) × (n ≤ maxSets) × (length out ≡ length out₀)
     × ((g : Register) → Tells (wrongKey g) (sheetIn sheet) wrong → Tells (lostKey g (sheetIn sheet)) (sheetIn sheet) lost
-    → out ≡ stored out₀ 0 (flat verdictBytes (firstVerdicts g (sheetIn sheet) i)))
+    → VerdictsPut (firstVerdicts g (sheetIn sheet) i) out₀ out)
 
 abbrev μ-loop : tie.MeasureT-loop
 μ-loop sheet wrong lost out₀ n i₀ out i = n - i
+
+-- the walk's start, and the turn's in the loop
+abbrev entered : tie.After-set-count Inv-loop μ-loop → tie.Start Inv-loop μ-loop
+entered c = c .before .before .before .before .before
+
+abbrev start : tie.At-loop Inv-loop μ-loop → tie.Start Inv-loop μ-loop
+start c = entered (c .before)
+
+abbrev turn : tie.After-verdict-of Inv-loop μ-loop → tie.At-loop Inv-loop μ-loop
+turn c = c .before .before .before .before .before
 
 set-count-requires : tie.Need-set-count-requires Inv-loop μ-loop
 set-count-requires c κs = search needs
 
 loop-holds : tie.Need-loop-holds Inv-loop μ-loop
-loop-holds c = (omega arith, omega (arith, few-sets _ (c .before .before .before .before .before .pre .0)), refl, λ g t u. verdicts-start g _ _)
+loop-holds c = (omega arith, omega (arith, few-sets _ (entered c .pre .0)), refl, λ g t u. verdicts-start g _ _)
 
-mul-verdict-of : tie.Need-mul-verdict-of Inv-loop μ-loop
-mul-verdict-of c = record { fits = omega arith }
+key-at-requires : tie.Need-key-at-requires Inv-loop μ-loop
+key-at-requires c κs = omega arith
 
-shared-slice-read-verdict-of : tie.Need-shared-slice-read-verdict-of Inv-loop μ-loop
-shared-slice-read-verdict-of c = omega arith
-
-mul-verdict-of-2 : tie.Need-mul-verdict-of-2 Inv-loop μ-loop
-mul-verdict-of-2 c = record { fits = omega arith }
-
-shared-slice-read-verdict-of-2 : tie.Need-shared-slice-read-verdict-of-2 Inv-loop μ-loop
-shared-slice-read-verdict-of-2 c = omega arith
+key-at-requires-2 : tie.Need-key-at-requires-2 Inv-loop μ-loop
+key-at-requires-2 c κs = omega arith
 
 verdict-of-requires : tie.Need-verdict-of-requires Inv-loop μ-loop
 verdict-of-requires c κs = search needs
@@ -59,15 +63,20 @@ loop-less c = search needs
 
 loop-again : tie.Need-loop-again Inv-loop μ-loop
 loop-again c =
-    let b = c .before .before .before .before .before .before .before .before .before .before .before .before .before .before in
-    let l = c .before .before .before .before .before .before .before .before .loop in
+    let v = c .before .before .before in
+    let l = turn v .loop in
+    let b = start (turn v) in
+    let s = sheetIn (now (b .args .sheet)) in
+    let sound = sheet-sound _ (b .pre .0) in
     let e = c .before .before .put-verdict .ensures in
-    let h : l .i < length (sheetIn (now (b .args .sheet)) .sets) = omega arith in (
+    let h : l .i < length s.sets = omega arith in (
       omega arith,
       l .inv .1,
-      ap length e ∙ length-stored _ _ _ ∙ l .inv .2,
+      e .long ∙ l .inv .2,
       λ g t u. verdicts-step g _ _ (l .i) _ h
-          (c .before .before .before .verdict-of .ensures ∙ ap₂ verdictBy (t (l .i) h) (u (l .i) h) ∙ verdict-by g _ _ (records-sound (now (b .args .sheet)) (l .i) (b .pre .0) h))
+          (v .verdict-of .ensures
+          ∙ ap₂ verdictBy (v .before .before .key-at .ensures ∙ wrong-told g s (now (b .args .wrong)) sound t (l .i) h) (v .before .key-at2 .ensures ∙ lost-told g s (now (b .args .lost)) sound u (l .i) h)
+          ∙ verdict-by g s (setAt s (l .i)))
           (l .inv .3 g t u) e,
     )
 
@@ -75,7 +84,10 @@ same-length : tie.Need-same-length Inv-loop μ-loop
 same-length c = search needs
 
 returns : tie.Need-returns Inv-loop μ-loop
-returns c = let l = c .before .loop in λ g t u. verdicts-end g _ _ (l .i) (omega arith) (l .inv .3 g t u)
+returns c =
+    let l = c .before .loop in
+    let b = start (c .before) in
+    λ g t u. verdicts-end g _ _ (l .i) (omega arith) (few-sets _ (b .pre .0)) (omega arith) (l .inv .3 g t u)
 
 pub put-verdicts-spec : {M : Type 1} → statement M
 put-verdicts-spec =
@@ -85,10 +97,8 @@ put-verdicts-spec =
     μ-loop
     set-count-requires
     loop-holds
-    mul-verdict-of
-    shared-slice-read-verdict-of
-    mul-verdict-of-2
-    shared-slice-read-verdict-of-2
+    key-at-requires
+    key-at-requires-2
     verdict-of-requires
     put-verdict-requires
     add-i

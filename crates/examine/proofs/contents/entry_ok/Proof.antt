@@ -12,6 +12,15 @@ use Rattle.examine.proofs.SheetTests.{entry-tests}
 use Rattle.examine.proofs.contents.entry_ok.Statement.{statement}
 use Rattle.examine.proofs.contents.entry_ok.Tie as tie
 
+abbrev start : tie.Else1 → tie.Start
+start c = c .before .before .before .before
+
+abbrev dated : tie.After-in-roster → tie.Else1
+dated c = c .before .before
+
+abbrev rostered : tie.After-get162 → tie.Else2
+rostered c = c .before .before .before
+
 get32-requires : tie.Need-get32-requires
 get32-requires c κs = search needs
 
@@ -35,7 +44,7 @@ in-roster-requires c κs = search needs
 
 returns-2 : tie.Need-returns-2
 returns-2 c =
-    let b = now (c .before .before .before .before .before .before .before .args .b) in
+    let b = now (start (dated (c .before)) .args .b) in
     let there = c .before .in-roster .ensures ∙ ap (λ (x : ℕ). inRoster (word 2 b 4) (masterOf x)) (c .before .before .get64 .ensures) in
     no-of (entry-tests _ _ _) (λ r. clash (r .1 .0) (said-no there (c .if2 .taken)))
 
@@ -65,8 +74,8 @@ returns-5 c = no-of (entry-tests _ _ _) (λ r. omega arith)
 
 returns-6 : tie.Need-returns-6
 returns-6 c =
-    let r = c .before .before .before .before .before in
-    let b = now (r .before .before .before .before .before .before .before .args .b) in
+    let r = rostered (c .before .before) in
+    let b = now (start (dated (r .before)) .args .b) in
     let there = r .before .in-roster .ensures ∙ ap (λ (x : ℕ). inRoster (word 2 b 4) (masterOf x)) (r .before .before .get64 .ensures) in
     yes-of (entry-tests _ _ _) (omega arith, (said-yes there (r .if2 .left), (omega arith, (omega arith, omega arith))))
 

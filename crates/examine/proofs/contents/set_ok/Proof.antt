@@ -10,6 +10,12 @@ use borrow.Author.Needs.{needs}
 use Rattle.examine.proofs.contents.set_ok.Statement.{statement}
 use Rattle.examine.proofs.contents.set_ok.Tie as tie
 
+abbrev start : tie.After-entry-ok → tie.Start
+start c = c .before .before .before .before
+
+abbrev sized : tie.After-body-ok → tie.After-get16
+sized c = c .before .before
+
 is-above-requires : tie.Need-is-above-requires
 is-above-requires c κs = search needs
 
@@ -45,14 +51,16 @@ body-ok-requires c κs = search needs
 
 returns-4 : tie.Need-returns-4
 returns-4 c =
-    let a = c .before .before .before .before .before .before .before .before .before .args in
-    let body = c .before .body-ok .ensures ∙ ap (λ (k : ℕ). bodyOk k 0 (now (a .b)) (a .at)) (c .before .before .before .get16 .ensures) in
+    let g = sized (c .before) in
+    let a = start (g .before .before) .args in
+    let body = c .before .body-ok .ensures ∙ ap (λ (k : ℕ). bodyOk k 0 (now (a .b)) (a .at)) (g .get16 .ensures) in
     no-of (set-tests _ _ _ _ _) (λ r. clash (r .1 .1 .1) (said-no body (c .if4 .taken)))
 
 returns-5 : tie.Need-returns-5
 returns-5 c =
-    let a = c .before .before .before .before .before .before .before .before .before .args in
-    let body = c .before .body-ok .ensures ∙ ap (λ (k : ℕ). bodyOk k 0 (now (a .b)) (a .at)) (c .before .before .before .get16 .ensures) in
+    let g = sized (c .before) in
+    let a = start (g .before .before) .args in
+    let body = c .before .body-ok .ensures ∙ ap (λ (k : ℕ). bodyOk k 0 (now (a .b)) (a .at)) (g .get16 .ensures) in
     yes-of (set-tests _ _ _ _ _) (search said-yes, (search said-yes, (omega arith, said-yes body (c .if4 .left))))
 
 pub set-ok-spec : {M : Type 1} → statement M

@@ -21,6 +21,12 @@ Inv-loop b n by₀ first₀ prev₀ c₀ at₀ left₀ by first prev c at left =
 abbrev μ-loop : tie.MeasureT-loop
 μ-loop b n by₀ first₀ prev₀ c₀ at₀ left₀ by first prev c at left = left
 
+abbrev start : tie.At-loop Inv-loop μ-loop → tie.Start Inv-loop μ-loop
+start l = l .before .before
+
+abbrev turn : tie.After-get16 Inv-loop μ-loop → tie.At-loop Inv-loop μ-loop
+turn c = c .before .before .before .before
+
 mul-at : tie.Need-mul-at Inv-loop μ-loop
 mul-at c = search needs
 
@@ -53,7 +59,7 @@ get64-requires c κs = search needs
 
 count-set-requires : tie.Need-count-set-requires Inv-loop μ-loop
 count-set-requires c κs =
-    let l = c .before .before .before .before .before .before .loop in
+    let l = turn (c .before .before) .loop in
     omega (arith, l .inv .5 (masterOf (c .before .get64 .result)) (omega arith))
 
 add-first : tie.Need-add-first Inv-loop μ-loop
@@ -77,9 +83,9 @@ loop-less c = search needs
 loop-again : tie.Need-loop-again Inv-loop μ-loop
 loop-again c =
     let g = c .before .before .before in
-    let b = now (g .before .before .before .before .before .before .args .b) in
-    let n = g .before .before .before .before .before .before .args .n in
-    let l = g .before .before .before .before .loop in
+    let b = now (start (turn g) .args .b) in
+    let n = start (turn g) .args .n in
+    let l = turn g .loop in
     let k = g .get16 .result in
     let csn = c .before .before .get64 .result in
     let ok = said-yes (g .before .before .set-ok .ensures) (g .before .if1 .left) in

@@ -8,7 +8,7 @@ use lib.ListN.{length}
 use Rattle.laws.specs.Says.{said-no, said-yes}
 use Rattle.examine.specs.SheetForm.{bodyOk}
 use Rattle.examine.proofs.RecordsBy.{body-more, body-none}
-use Rattle.laws.specs.Loops.{stops, goes}
+use Rattle.examine.proofs.Loops.{stops, goes}
 use Rattle.examine.proofs.records.body_ok.Statement.{statement}
 use Rattle.examine.proofs.records.body_ok.Tie as tie
 
@@ -18,6 +18,12 @@ Inv-loop b at n left₀ place₀ prev₀ left place prev = (place + 16 * left �
 abbrev μ-loop : tie.MeasureT-loop
 μ-loop b at n left₀ place₀ prev₀ left place prev = left
 
+abbrev start : tie.At-loop Inv-loop μ-loop → tie.Start Inv-loop μ-loop
+start l = l .before .before
+
+abbrev turn : tie.After-record-ok Inv-loop μ-loop → tie.At-loop Inv-loop μ-loop
+turn c = c .before .before
+
 loop-holds : tie.Need-loop-holds Inv-loop μ-loop
 loop-holds c = (omega arith, refl)
 
@@ -26,7 +32,7 @@ record-ok-requires c κs = search needs
 
 returns : tie.Need-returns Inv-loop μ-loop
 returns c =
-    let l = c .before .before .before .loop in
+    let l = turn (c .before) .loop in
     stops _ _ (l .inv .1) (body-more (l .left) (l .prev) _ (l .place) (omega arith)) (said-no (c .before .record-ok .ensures) (c .if1 .taken))
 
 add-get32 : tie.Need-add-get32 Inv-loop μ-loop
@@ -46,8 +52,9 @@ loop-less c = search needs
 
 loop-again : tie.Need-loop-again Inv-loop μ-loop
 loop-again c =
-    let b = now (c .before .before .before .before .before .before .args .b) in
-    let l = c .before .before .before .before .loop in
+    let at = turn (c .before .before) in
+    let b = now (start at .args .b) in
+    let l = at .loop in
     let passed = goes _ _ (l .inv .1) (body-more (l .left) (l .prev) b (l .place) (omega arith)) (said-yes (c .before .before .record-ok .ensures) (c .before .if1 .left)) in
     (omega arith, passed ∙ ap (λ (k : ℕ). bodyOk (l .left - 1) k b (l .place + 16)) (sym (c .get32 .ensures)))
 

@@ -18,6 +18,12 @@ Inv-loop b by m₀ m = (m ≤ 16) × ((k : ℕ) → k < m → noticeOk b k ≡ t
 abbrev μ-loop : tie.MeasureT-loop
 μ-loop b by m₀ m = 16 - m
 
+abbrev start : tie.At-loop Inv-loop μ-loop → tie.Start Inv-loop μ-loop
+start l = l .before .before
+
+abbrev turn : tie.After-notice-ok Inv-loop μ-loop → tie.At-loop Inv-loop μ-loop
+turn c = c .before .before .before
+
 loop-holds : tie.Need-loop-holds Inv-loop μ-loop
 loop-holds c = (omega arith, λ k l. absurd (omega arith))
 
@@ -29,8 +35,9 @@ notice-ok-requires c κs = search needs
 
 returns : tie.Need-returns Inv-loop μ-loop
 returns c =
-    let s = c .before .before .before .before .before .before in
-    let m = c .before .before .before .before .loop .m in
+    let l = turn (c .before) in
+    let s = start l in
+    let m = l .loop .m in
     let ok = notice-by (now (s .args .b)) (now (s .args .by)) m (s .pre .1) (omega arith) (c .before .notice-ok .ensures) in
     fails _ 16 m (omega arith) (said-no ok (c .if1 .taken))
 
@@ -42,10 +49,10 @@ loop-less c = search needs
 
 loop-again : tie.Need-loop-again Inv-loop μ-loop
 loop-again c =
-    let s = c .before .before .before .before .before .before in
-    let l = c .before .before .before .before .loop in
-    let ok = notice-by (now (s .args .b)) (now (s .args .by)) (l .m) (s .pre .1) (omega arith) (c .before .notice-ok .ensures) in
-    (omega arith, below-more _ _ (l .inv .1) (said-yes ok (c .if1 .left)))
+    let l = turn (c .before) in
+    let s = start l in
+    let ok = notice-by (now (s .args .b)) (now (s .args .by)) (l .loop .m) (s .pre .1) (omega arith) (c .before .notice-ok .ensures) in
+    (omega arith, below-more _ _ (l .loop .inv .1) (said-yes ok (c .if1 .left)))
 
 returns-2 : tie.Need-returns-2 Inv-loop μ-loop
 returns-2 c = passes _ 16 (c .before .loop .m) (omega arith) (c .before .loop .inv .1)

@@ -6,6 +6,7 @@ use native.Mathlib.Numerals.{add-one}
 use native.Mathlib.Omega.{arith}
 use Rattle.words.specs.Words.{stored}
 use Rattle.rules.specs.Refused.{verdictBytes}
+use Rattle.forms.proofs.VerdictStored.{verdict-added}
 use borrow.Author.Needs.{needs}
 use Rattle.forms.proofs.verdict.put_verdict.Statement.{statement}
 use Rattle.forms.proofs.verdict.put_verdict.Tie as tie
@@ -34,8 +35,9 @@ same-length c = ap length (c .before .before .put32 .ensures) ∙ simp (length-s
 returns : tie.Need-returns
 unfolding stored verdictBytes
 returns c =
-    c .before .before .put32 .ensures
-    ∙ simp (c .before .before .before .before .before .code .ensures, c .before .before .before .key .ensures, add-one)
+    let w = c .before .before in
+    let k = w .before in
+    verdict-added _ _ _ (w .put32 .ensures ∙ simp (k .before .before .code .ensures, k .key .ensures, add-one))
 
 pub put-verdict-spec : {M : Type 1} → statement M
 put-verdict-spec =

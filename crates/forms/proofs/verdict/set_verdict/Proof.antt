@@ -2,7 +2,7 @@
 use mathlib.Core.Path.{sym, _∙_, ap}
 use native.Mathlib.Nat.{zero-add}
 use Rattle.forms.specs.VerdictForm.{verdictOf, verdictIn}
-use Rattle.forms.specs.VerdictPlaces.{verdict-place}
+use Rattle.forms.proofs.VerdictPlaces.{verdict-place}
 use borrow.Author.Needs.{needs}
 use Rattle.forms.proofs.verdict.set_verdict.Statement.{statement}
 use Rattle.forms.proofs.verdict.set_verdict.Tie as tie

@@ -1,31 +1,48 @@
 -- Refused in the order of the numbers, or joined with the sheet of the one offer.
 use native.Mathlib.Omega.{arith}
-use mathlib.Core.Path.{_∙_, sym}
+use denote.Ref.{now}
+use mathlib.Core.Path.{_≡_, _∙_, sym}
+use mathlib.Core.Bool.{true}
 use Rattle.laws.specs.Says.{said-no, said-yes}
-use Rattle.rules.specs.declared.answer.Refusal.the-variants.{SheetIllFormed, OfferIllFormed}
-use Rattle.laws.specs.Meets.{refuses, writes}
-use Rattle.gather.proofs.OfferLaws.{put-2, put-3, put-to, refused-by, granted-by, grant}
+use Rattle.rules.specs.Sheet.{isSheet}
+use Rattle.rules.specs.Refused.{putOutcome}
+use Rattle.gather.specs.Offers.{goodSet}
+use Rattle.gather.proofs.OfferLaws.{good-set, bad-set, grant, sheet-refused, offer-refused, not-admitted, taken-in}
 use borrow.Author.Needs.{needs}
 use Rattle.gather.proofs.offer.put.Statement.{statement}
 use Rattle.gather.proofs.offer.put.Tie as tie
+
+abbrev start : tie.Else1 → tie.Start
+start c = c .before .before .before .before .before
+
+abbrev examined : tie.Else2 → tie.Else1
+examined c = c .before .before
+
+is-a-sheet : (c : tie.Else1) → isSheet (now (start c .args .sheet)) ≡ true
+is-a-sheet c = said-yes (c .before .is-sheet .ensures) (c .if1 .left)
+
+is-good : (c : tie.Else2) → goodSet (start (examined c) .args .epoch) (start (examined c) .args .sen) (now (start (examined c) .args .records)) ≡ true
+is-good c = said-yes (c .before .is-set .ensures) (c .if2 .left)
 
 is-sheet-requires : tie.Need-is-sheet-requires
 is-sheet-requires c κs = search needs
 
 returns : tie.Need-returns
-returns c = refuses _ SheetIllFormed _ (put-2 _ _ _ _ _ _ (said-no (c .before .is-sheet .ensures) (c .if1 .taken)))
+unfolding putOutcome
+returns c = sheet-refused _ _ _ _ _ (said-no (c .before .is-sheet .ensures) (c .if1 .taken))
 
 is-set-requires : tie.Need-is-set-requires
 is-set-requires c κs = search needs
 
 returns-2 : tie.Need-returns-2
-returns-2 c = refuses _ OfferIllFormed _ (put-3 _ _ _ _ _ _ (said-yes (c .before .before .before .is-sheet .ensures) (c .before .before .if1 .left)) (said-no (c .before .is-set .ensures) (c .if2 .taken)))
+unfolding putOutcome
+returns-2 c = offer-refused _ _ _ _ _ (is-a-sheet (c .before .before)) (bad-set _ _ _ _ (said-no (c .before .is-set .ensures) (c .if2 .taken)))
 
 cast-admit : tie.Need-cast-admit
 cast-admit c = search needs
 
 admit-requires : tie.Need-admit-requires
-admit-requires c κs = ((said-yes (c .before .before .before .is-sheet .ensures) (c .before .before .if1 .left)), omega arith)
+admit-requires c κs = (is-a-sheet (examined c), omega arith)
 
 enum-known-x : tie.Need-enum-known-x
 enum-known-x c = search needs
@@ -35,24 +52,28 @@ enum-told c = search needs
 
 add-set-requires : tie.Need-add-set-requires
 add-set-requires c κs =
-    ((said-yes (c .before .before .before .before .before .before .before .is-sheet .ensures) (c .before .before .before .before .before .before .if1 .left)), (said-yes (c .before .before .before .before .before .is-set .ensures) (c .before .before .before .before .if2 .left)), grant _ _ _ _ (sym (c .before .before .before .admit .ensures) ∙ c .before .enum-told .given .1))
+    let a = c .before .before .before in
+    let e = a .before in
+    (is-a-sheet (examined e), is-good e, grant _ _ _ _ (sym (a .admit .ensures) ∙ c .before .enum-told .given .1))
 
 returns-3 : tie.Need-returns-3
+unfolding putOutcome
 returns-3 c =
-    refuses _ _ _
-    (put-to _ _ _ _ _ _ (said-yes (c .before .before .before .before .before .before .before .is-sheet .ensures) (c .before .before .before .before .before .before .if1 .left)) (said-yes (c .before .before .before .before .before .is-set .ensures) (c .before .before .before .before .if2 .left))
-    ∙ refused-by _ _ _ _ _ (c .before .x .given .0 .0) (sym (c .before .before .before .admit .ensures) ∙ c .before .x .given .1))
+    let a = c .before .before .before in
+    let e = a .before in
+    not-admitted _ _ _ _ _ (is-a-sheet (examined e)) (good-set _ _ _ _ (is-good e)) _ (sym (a .admit .ensures) ∙ c .before .x .given .1)
 
 same-length : tie.Need-same-length
 same-length c = search needs
 
 returns-4 : tie.Need-returns-4
+unfolding putOutcome
 returns-4 c =
-    let w = c .before .before .add-set .ensures in
-    writes _ _ _ _ _
-    (put-to _ _ _ _ _ _ (said-yes (c .before .before .before .before .before .before .before .before .before .before .is-sheet .ensures) (c .before .before .before .before .before .before .before .before .before .if1 .left)) (said-yes (c .before .before .before .before .before .before .before .before .is-set .ensures) (c .before .before .before .before .before .before .before .if2 .left))
-    ∙ granted-by _ _ _ _ _ (sym (c .before .before .before .before .before .before .admit .ensures) ∙ c .before .before .before .before .enum-told .given .1))
-    (w .long) (w .bytes)
+    let w = c .before .before in
+    let t = w .before .before in
+    let a = t .before .before in
+    let e = a .before in
+    taken-in _ _ _ _ _ (is-a-sheet (examined e)) (good-set _ _ _ _ (is-good e)) (sym (a .admit .ensures) ∙ t .enum-told .given .1) (w .add-set .ensures)
 
 pub put-spec : {M : Type 1} → statement M
 put-spec =

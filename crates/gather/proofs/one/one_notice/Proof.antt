@@ -1,8 +1,14 @@
 -- The head alone, with one notice.
-use Rattle.gather.specs.OneLaws.{notice-held}
+use Rattle.gather.proofs.OneLaws.{notice-held}
 use borrow.Author.Needs.{needs}
 use Rattle.gather.proofs.one.one_notice.Statement.{statement}
 use Rattle.gather.proofs.one.one_notice.Tie as tie
+
+abbrev begun : tie.After-put-notices → tie.After-put-sheet-start
+begun c = c .before .before .before .before .before
+
+abbrev start : tie.After-put-sheet-start → tie.Start
+start c = c .before .before .before
 
 array-write-notices : tie.Need-array-write-notices
 array-write-notices c = search needs
@@ -24,9 +30,10 @@ same-length c = search needs
 
 returns : tie.Need-returns
 returns c =
-    let d = c .before in
-    let s = d .before .before .before .before .before .before .before .before .before .before in
-    rw (c .length-with .ensures) (notice-held _ _ _ _ _ (s .pre .0) (s .pre .1) (s .pre .2) (d .before .before .before .before .before .before .before .put-sheet-start .ensures) (d .before .before .put-notices .ensures))
+    let d = c .before .before .before in
+    let w = begun d in
+    let s = start w in
+    rw (c .length-with .ensures) (notice-held _ _ _ _ _ (s .pre .0) (s .pre .1) (s .pre .2) (w .put-sheet-start .ensures) (d .put-notices .ensures))
 
 pub one-notice-spec : {M : Type 1} → statement M
 one-notice-spec =

@@ -1,8 +1,11 @@
 -- Opening refuses as the paper does, and writes the empty sheet.
-use Rattle.gather.specs.OneLaws.{no-epoch, no-roster, no-room, opened}
+use Rattle.gather.proofs.OneLaws.{no-epoch, no-roster, no-room, opened}
 use borrow.Author.Needs.{needs}
 use Rattle.gather.proofs.opening.open.Statement.{statement}
 use Rattle.gather.proofs.opening.open.Tie as tie
+
+abbrev begun : tie.After-put-no-notices → tie.After-put-sheet-start
+begun c = c .before .before .before .before
 
 returns : tie.Need-returns
 returns c = no-epoch _ _ _ (c .if1 .taken)
@@ -27,9 +30,10 @@ length-with-requires c κs = search needs
 
 returns-4 : tie.Need-returns-4
 returns-4 c =
-    let d = c .before in
-    let s = d .before .before .before .before .before .before .before .before in
-    rw (c .length-with .ensures) (opened _ _ _ (s .before .before .if1 .left) (s .before .if2 .left) (s .if3 .left) (d .before .before .before .before .before .before .put-sheet-start .ensures) (d .before .before .put-no-notices .ensures))
+    let d = c .before .before .before in
+    let w = begun d in
+    let t = w .before .before in
+    rw (c .length-with .ensures) (opened _ _ _ (t .before .before .if1 .left) (t .before .if2 .left) (t .if3 .left) (w .put-sheet-start .ensures) (d .put-no-notices .ensures))
 
 pub open-spec : {M : Type 1} → statement M
 open-spec =

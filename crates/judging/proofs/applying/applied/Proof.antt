@@ -1,59 +1,68 @@
--- No committed set before set i names the key.
-use Prim.Native.Nat.{ℕ, _-_, _≤_, _<_}
-use mathlib.Core.Path.{_≡_, _∙_}
-use mathlib.Core.Bool.{true}
+-- No committed set before set i has a record for the key, so it is looked for from set i on.
+use Prim.Native.Nat.{_-_, _≤_}
+use mathlib.Core.Path.{_≡_, sym, _∙_}
 use mathlib.Core.Logic.{⊎-elim}
 use native.Mathlib.Omega.{arith}
 use denote.Ref.{now}
-use lib.ListN.{getD}
 use borrow.Author.Needs.{needs}
-use borrow.Author.Count.{below-more}
-use Rattle.rules.specs.Sheet.{sheetIn}
-use Rattle.rules.specs.Closing.{names}
-use Rattle.sheets.specs.SheetReadings.{setAt}
+use Rattle.rules.specs.Register.{Register}
+use Rattle.rules.specs.Sheet.{Sheet, maxSets, sheetIn}
+use Rattle.rules.specs.Closing.{commits}
 use Rattle.laws.specs.SheetLaws.{sheet-sound}
-use Rattle.sheets.specs.SheetPlaces.{few-sets}
-use Rattle.judging.proofs.WinnerLaws.{placed-not}
-use Rattle.judging.specs.AppliedLaws.{found-applied, none-applied}
+use Rattle.sheets.specs.SheetReadings.{setAt}
+use Rattle.sheets.specs.SheetSizes.{few-sets}
+use Rattle.judging.specs.Tables.{lostKey, Tells}
+use Rattle.judging.specs.TableLaws.{commit-told}
+use Rattle.judging.proofs.AppliedLaws.{Sought, sought-start, sought-found, sought-later, sought-other, sought-end}
 use Rattle.judging.proofs.applying.applied.Statement.{statement}
 use Rattle.judging.proofs.applying.applied.Tie as tie
 
 abbrev Inv-loop : tie.InvT-loop
-Inv-loop sheet lost key n i₀ i = (i ≤ n) × (n ≤ 64) × ((u : ℕ) → u < i → getD lost u 0 ≡ 0 → names (setAt (sheetIn sheet) u) key ≡ true → ⊥)
+Inv-loop sheet lost key n i₀ i =
+    (i ≤ n) × (n ≤ maxSets)
+    × ((g : Register) → Tells (lostKey g (sheetIn sheet)) (sheetIn sheet) lost → Sought g (sheetIn sheet) key i)
 
 abbrev μ-loop : tie.MeasureT-loop
 μ-loop sheet lost key n i₀ i = n - i
+
+abbrev turn : tie.After-none-at Inv-loop μ-loop → tie.At-loop Inv-loop μ-loop
+turn c = c .before .before
+
+abbrev start : tie.After-none-at Inv-loop μ-loop → tie.Start Inv-loop μ-loop
+start c = turn c .before .before .before .before
+
+abbrev sheet : tie.After-none-at Inv-loop μ-loop → Sheet
+sheet c = sheetIn (now (start c .args .sheet))
+
+-- the table tells whether set i commits
+commit : (c : tie.After-none-at Inv-loop μ-loop) (g : Register) → Tells (lostKey g (sheet c)) (sheet c) (now (start c .args .lost))
+    → commits g (sheet c) (setAt (sheet c) (turn c .loop .i)) ≡ c .none-at .result
+commit c g t = sym (c .none-at .ensures ∙ commit-told g (sheet c) (now (start c .args .lost)) (sheet-sound _ (start c .pre .0)) t (turn c .loop .i) (omega arith))
 
 set-count-requires : tie.Need-set-count-requires Inv-loop μ-loop
 set-count-requires c κs = search needs
 
 loop-holds : tie.Need-loop-holds Inv-loop μ-loop
-loop-holds c = (omega arith, omega (arith, few-sets _ (c .before .before .before .pre .0)), λ u h. absurd (omega arith))
+loop-holds c = (omega arith, omega (arith, few-sets _ (c .before .before .before .pre .0)), λ g t. sought-start g _ _)
 
-mul-if1 : tie.Need-mul-if1 Inv-loop μ-loop
-mul-if1 c = record { fits = omega arith }
+none-at-requires : tie.Need-none-at-requires Inv-loop μ-loop
+none-at-requires c κs = omega arith
 
-shared-slice-read-if1 : tie.Need-shared-slice-read-if1 Inv-loop μ-loop
-shared-slice-read-if1 c = omega arith
+record-of-requires : tie.Need-record-of-requires Inv-loop μ-loop
+record-of-requires c κs = (search needs, omega arith)
 
-place-of-requires : tie.Need-place-of-requires Inv-loop μ-loop
-place-of-requires c κs = (search needs, omega arith)
-
-record-count-requires : tie.Need-record-count-requires Inv-loop μ-loop
-record-count-requires c κs = (search needs, omega arith)
-
-record-requires : tie.Need-record-requires Inv-loop μ-loop
-record-requires c κs = (search needs, omega arith, omega arith)
+enum-known-r : tie.Need-enum-known-r Inv-loop μ-loop
+enum-known-r c = search needs
 
 returns : tie.Need-returns Inv-loop μ-loop
 returns c =
-    let b = c .before .before .before .before .before .before .before .before .before .before .before in
-    let s = sheetIn (now (b .args .sheet)) in
-    let l = c .before .before .before .before .before .before .before .loop in
-    λ g t.
-    c .«record» .ensures
-    ∙ found-applied g s (now (b .args .lost)) (sheet-sound _ (b .pre .0)) t (l .i) (omega arith) (b .args .key) _ (c .before .before .before .before .if1 .taken)
-    (c .before .before .before .place-of .ensures) (omega arith)
+    let asked = c .before .before .before in
+    let tested = asked .before .before in
+    let l = turn tested .loop in
+    λ g t. sought-found g _ _ (l .i) (omega arith) (l .inv .2 g t) (commit tested g t ∙ asked .before .if1 .taken) (sym (c .before .r .given .1) ∙ asked .record-of .ensures)
+
+enum-told : tie.Need-enum-told Inv-loop μ-loop
+enum-told c = search needs
 
 add-i : tie.Need-add-i Inv-loop μ-loop
 add-i c = search needs
@@ -63,22 +72,17 @@ loop-less c = search needs
 
 loop-again : tie.Need-loop-again Inv-loop μ-loop
 loop-again c =
-    let b = c .before .before .before .before .before .before .before in
-    let l = c .before .before .before .loop in
-    let s = sheetIn (now (b .args .sheet)) in (
+    let l = turn (c .before) .loop in (
       omega arith,
       l .inv .1,
-      below-more _ (l .i) (l .inv .2)
-          (λ z. ⊎-elim
-          (λ w. placed-not (setAt s (l .i)) (b .args .key) _ (w .1 .ensures) (omega (arith, w .2 .ensures, w .3)))
-          (λ w. absurd (w .left z)) (c .if1 .came)),
+      λ g t. ⊎-elim
+          (λ w. sought-later g _ _ (l .i) (omega arith) (l .inv .2 g t) (commit (c .before) g t ∙ w .0 .taken) (sym (w .3 .given .1) ∙ w .1 .ensures))
+          (λ w. sought-other g _ _ (l .i) (omega arith) (l .inv .2 g t) (commit (c .before) g t ∙ w .left))
+          (c .if1 .came),
     )
 
 returns-2 : tie.Need-returns-2 Inv-loop μ-loop
-returns-2 c =
-    let b = c .before .before .before .before .before in
-    let l = c .before .loop in
-    λ g t. none-applied g _ (now (b .args .lost)) _ (sheet-sound _ (b .pre .0)) t (λ u h. l .inv .2 u (omega arith))
+returns-2 c = let l = c .before .loop in λ g t. sought-end g _ _ (l .i) (omega arith) (l .inv .2 g t)
 
 pub applied-spec : {M : Type 1} → statement M
 applied-spec =
@@ -88,12 +92,11 @@ applied-spec =
     μ-loop
     set-count-requires
     loop-holds
-    mul-if1
-    shared-slice-read-if1
-    place-of-requires
-    record-count-requires
-    record-requires
+    none-at-requires
+    record-of-requires
+    enum-known-r
     returns
+    enum-told
     add-i
     loop-less
     loop-again

@@ -7,16 +7,16 @@ use denote.Ref.{now}
 use lib.ListN.{take}
 use borrow.Author.Needs.{needs}
 use Rattle.rules.specs.declared.row.Record.{Record}
-use Rattle.rules.specs.Sheet.{sheetIn}
+use Rattle.rules.specs.Sheet.{maxRecords, sheetIn}
 use Rattle.sheets.specs.SheetReadings.{setAt}
-use Rattle.sheets.specs.SheetPlaces.{few-records}
+use Rattle.sheets.specs.SheetSizes.{few-records}
 use Rattle.judging.specs.Judged.{ofKind}
-use Rattle.judging.specs.AppliedLaws.{kind-none, kind-yes, kind-no, kind-all}
+use Rattle.judging.proofs.AppliedLaws.{kind-none, kind-yes, kind-no, kind-all}
 use Rattle.judging.proofs.applying.count_in.Statement.{statement}
 use Rattle.judging.proofs.applying.count_in.Tie as tie
 
 abbrev Inv-loop : tie.InvT-loop
-Inv-loop sheet i kind n count₀ j₀ count j = (j ≤ n) × (n ≤ 8) × (count ≤ j) × (count ≡ ofKind kind (take j (setAt (sheetIn sheet) i .records)))
+Inv-loop sheet i kind n count₀ j₀ count j = (j ≤ n) × (n ≤ maxRecords) × (count ≤ j) × (count ≡ ofKind kind (take j (setAt (sheetIn sheet) i .records)))
 
 abbrev μ-loop : tie.MeasureT-loop
 μ-loop sheet i kind n count₀ j₀ count j = n - j

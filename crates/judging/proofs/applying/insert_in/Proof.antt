@@ -20,6 +20,12 @@ Inv-loop sheet i after n j₀ j = (j ≤ n) × NoneBefore (setAt (sheetIn sheet)
 abbrev μ-loop : tie.MeasureT-loop
 μ-loop sheet i after n j₀ j = n - j
 
+abbrev turn : tie.After-record Inv-loop μ-loop → tie.At-loop Inv-loop μ-loop
+turn c = c .before .before
+
+abbrev start : tie.After-record Inv-loop μ-loop → tie.Start Inv-loop μ-loop
+start c = turn c .before .before .before
+
 record-count-requires : tie.Need-record-count-requires Inv-loop μ-loop
 record-count-requires c κs = search needs
 
@@ -31,9 +37,10 @@ record-requires c κs = (search needs, search needs, omega arith)
 
 returns : tie.Need-returns Inv-loop μ-loop
 returns c =
-    let b = c .before .before .before .before .before .before .before .before .before in
-    let l = c .before .before .before .before .before .before .loop in
-    let e = c .before .before .before .before .«record» .ensures in
+    let r = c .before .before .before .before in
+    let b = start r in
+    let l = turn r .loop in
+    let e = r .«record» .ensures in
     let w = setAt (sheetIn (now (b .args .sheet))) (b .args .i) in
     rw (ap recordKey e)
     (insert-here w (b .args .after) (l .j) (l .inv .1) (records-sound _ _ (b .pre .0) (b .pre .1)) (omega arith)
@@ -47,7 +54,7 @@ loop-less c = search needs
 
 loop-again : tie.Need-loop-again Inv-loop μ-loop
 loop-again c =
-    let l = c .before .before .before .before .loop in
+    let l = turn (c .before .before) .loop in
     let e = c .before .before .«record» .ensures in (
       omega arith,
       below-more _ (l .j) (l .inv .1)

@@ -1,7 +1,7 @@
 -- Rows that were passed have smaller keys than every record to come; the first record found wrong is looked for from record j on.
 use Prim.Native.Nat.{ℕ, _-_, _≤_, _<_}
 use mathlib.Core.Path.{_≡_, refl, sym, _∙_, ap}
-use mathlib.Core.Bool.{true, false}
+use mathlib.Core.Bool.{true, false, not}
 use mathlib.Core.Logic.{⊎-elim}
 use native.Mathlib.Omega.{arith}
 use denote.Ref.{now}
@@ -9,17 +9,20 @@ use lib.ListN.{length}
 use borrow.Author.Needs.{needs}
 use borrow.Author.Count.{below-more}
 use borrow.Author.Tests.{not-true, not-false}
-use Rattle.rules.specs.Register.{registerIn}
-use Rattle.rules.specs.Sheet.{sheetIn, recordKey}
+use Rattle.rules.specs.declared.row.Record.{Record}
+use Rattle.rules.specs.Register.{Register, registerIn}
+use Rattle.rules.specs.Sheet.{WriteSet, sheetIn, recordKey}
 use Rattle.rules.specs.Closing.{fitRecord, firstWrong}
 use Rattle.laws.specs.RegisterLaws.{register-sound}
-use Rattle.laws.specs.Says.{clash}
-use Rattle.registers.specs.RegisterForm.{rowAt}
+use Rattle.registers.specs.RegisterReadings.{rowAt}
 use Rattle.sheets.specs.SheetReadings.{setAt, recordAt}
 use Rattle.sheets.specs.SheetMembers.{records-sound}
-use Rattle.judging.specs.Judged.{wrongKey}
-use Rattle.judging.proofs.Firsts.{From, passes, fails, all-pass}
-use Rattle.judging.specs.FitLaws.{Nowhere, Walked, walked-nowhere, walked-there, fits-there, wrong-there, fits-nowhere, wrong-nowhere, larger-record}
+use Rattle.judging.specs.declared.key.FirstKey.the-variants.{Key, None}
+use Rattle.judging.specs.Answers.{firstKey}
+use Rattle.judging.proofs.InOrder.{larger-record}
+use Rattle.judging.specs.Tables.{wrongKey}
+use Rattle.judging.proofs.Firsts.{From, skips, stops, ends}
+use Rattle.judging.proofs.FitLaws.{Walked, walked-nowhere, walked-there, fits-there, wrong-there, fits-nowhere, wrong-nowhere}
 use Rattle.judging.proofs.fit.wrong_key.Statement.{statement}
 use Rattle.judging.proofs.fit.wrong_key.Tie as tie
 
@@ -32,12 +35,44 @@ abbrev μ-rows : tie.MeasureT-rows
 
 abbrev Inv-records : tie.InvT-records
 Inv-records register sheet i rows records wrong₀ at₀ j₀ wrong at j =
-    (wrong ≡ 0)
-    × From (fitRecord (registerIn register)) (setAt (sheetIn sheet) i) (firstWrong (registerIn register) (setAt (sheetIn sheet) i)) j
+    (wrong ≡ None)
+    × From (λ r. not (fitRecord (registerIn register) r)) (setAt (sheetIn sheet) i) (firstWrong (registerIn register) (setAt (sheetIn sheet) i)) j
     × ((k l : ℕ) → k < at → j ≤ l → l < records → rowAt (registerIn register) k .key < recordAt (setAt (sheetIn sheet) i) l .key)
 
 abbrev μ-records : tie.MeasureT-records
 μ-records register sheet i rows records wrong₀ at₀ j₀ wrong at j = records - j
+
+abbrev turn : tie.After-record Inv-rows μ-rows Inv-records μ-records → tie.At-records Inv-rows μ-rows Inv-records μ-records
+turn c = c .before .before
+
+abbrev start : tie.After-record Inv-rows μ-rows Inv-records μ-records → tie.Start Inv-rows μ-rows Inv-records μ-records
+start c = turn c .before .before .before .before .before
+
+abbrev register : tie.After-record Inv-rows μ-rows Inv-records μ-records → Register
+register c = registerIn (now (start c .args .register))
+
+abbrev set : tie.After-record Inv-rows μ-rows Inv-records μ-records → WriteSet
+set c = setAt (sheetIn (now (start c .args .sheet))) (start c .args .i)
+
+-- where the walk over the rows left off, the key is there and the record is no insert, or it is nowhere
+walked : (c : tie.Left-rows Inv-rows μ-rows Inv-records μ-records) → Walked (register (c .before .before)) (c .before .before .«record» .result) (c .before .rows .at) (c .rows-test .present)
+walked c =
+    let r = c .before .before .«record» .result in
+    let g = register (c .before .before) in
+    let l = c .before .rows in
+    ⊎-elim
+    (λ v. walked-nowhere g r (l .at) (v .1 ∙ l .inv .1) (record { before = l .inv .2; there = λ h. absurd (omega (arith, v .0)) }))
+    (λ v. ⊎-elim
+    (λ u. walked-nowhere g r (l .at) (u .3 ∙ l .inv .1) (record { before = l .inv .2; there = λ h. omega (arith, u .1 .ensures, u .2 .taken) }))
+    (λ u. walked-there g r (l .at) (u .5) (omega (arith, u .0 .taken)) (sym (u .1 .ensures) ∙ sym (u .3 .taken)) (u .4 .left)) v)
+    (c .rows-test .came)
+
+-- a record found wrong is the first one
+found : (c : tie.After-record Inv-rows μ-rows Inv-records μ-records) → fitRecord (register c) (c .«record» .result) ≡ false → Key (c .«record» .result .key) ≡ wrongKey (register c) (set c)
+unfolding wrongKey firstKey
+found c e =
+    ap (λ (q : Record). Key (q .key)) (c .«record» .ensures)
+    ∙ sym (ap firstKey (stops (turn c .records .inv .1) (omega arith) (ap not (ap (fitRecord (register c)) (sym (c .«record» .ensures)) ∙ e))))
 
 row-count-requires : tie.Need-row-count-requires Inv-rows μ-rows Inv-records μ-records
 row-count-requires c κs = search needs
@@ -81,71 +116,42 @@ records-less c = search needs
 
 records-again : tie.Need-records-again Inv-rows μ-rows Inv-records μ-records
 records-again c =
-    let a = c .before .before .before .before .before .before .before .before .before .before .args in
-    let o = c .before .before .before .before .before .records in
+    let b = c .before .before .before in
+    let o = turn b .records in
     let l = c .before .before .rows in
-    let g = registerIn (now (a .register)) in
-    let w = setAt (sheetIn (now (a .sheet))) (a .i) in
-    let r = c .before .before .before .«record» .result in
-    let e = c .before .before .before .«record» .ensures in
-    let pre = c .before .before .before .before .before .before .before .before .before .before .pre in
-    let walked : Walked g r (l .at) (c .before .rows-test .present) =
+    let e = b .«record» .ensures in
+    let pre = start b .pre in
+    let k = walked (c .before) in
+    let fits : fitRecord (register b) (b .«record» .result) ≡ true =
     ⊎-elim
-    (λ v. walked-nowhere g r (l .at) (v .1 ∙ l .inv .1) (record { before = l .inv .2; there = λ h. absurd (omega (arith, v .0)) }))
-    (λ v. ⊎-elim
-    (λ u. walked-nowhere g r (l .at) (u .3 ∙ l .inv .1) (record { before = l .inv .2; there = λ h. omega (arith, u .1 .ensures, u .2 .taken) }))
-    (λ u. walked-there g r (l .at) (u .5) (omega (arith, u .0 .taken)) (sym (u .1 .ensures) ∙ sym (u .3 .taken)) (u .4 .left)) v)
-    (c .before .rows-test .came)
-    in
-    let fits : fitRecord g r ≡ true =
-    ⊎-elim
-    (λ v. fits-nowhere g r (l .at) (register-sound _ (pre .0)) (walked .nowhere (not-true _ (v .0 .taken))) (v .1 .left))
-    (λ v. let t = walked .there (not-false _ (v .left)) in fits-there g r (l .at) (t .0) (t .1) (t .2))
+    (λ v. fits-nowhere _ _ (l .at) (register-sound _ (pre .0)) (k .nowhere (not-true _ (v .0 .taken))) (v .1 .left))
+    (λ v. let t = k .there (not-false _ (v .left)) in fits-there _ _ (l .at) (t .0) (t .1) (t .2))
     (c .if4 .came)
     in
-    let sound = records-sound (now (a .sheet)) (a .i) (pre .1) (pre .2) in (
+    let sound = records-sound _ (start b .args .i) (pre .1) (pre .2) in (
       l .inv .0 ∙ o .inv .0,
-      passes (o .inv .1) (omega arith) (ap (fitRecord g) (sym e) ∙ fits),
-      λ k q m n p. omega (arith, l .inv .2 k m, ap recordKey e, larger-record w sound (o .j) q (omega arith) (omega arith)),
+      skips (o .inv .1) (omega arith) (ap not (ap (fitRecord (register b)) (sym e) ∙ fits)),
+      λ k q m n p. omega (arith, l .inv .2 k m, ap recordKey e, larger-record (set b) sound (o .j) q (omega arith) (omega arith)),
     )
 
 returns : tie.Need-returns Inv-rows μ-rows Inv-records μ-records
-unfolding wrongKey
+unfolding wrongKey firstKey
 returns c =
     let o = c .before .records in
-    o .inv .0 ∙ all-pass (o .inv .1) (omega arith)
+    o .inv .0 ∙ sym (ap firstKey (ends (o .inv .1) (omega arith)))
 
 returns-2 : tie.Need-returns-2 Inv-rows μ-rows Inv-records μ-records
-unfolding wrongKey
 returns-2 c =
-    let o = c .before .before .before .before .before .before .before .before .records in
-    let r = c .before .before .before .before .before .before .«record» .result in
-    let e = c .before .before .before .before .before .before .«record» .ensures in
-    let h : c .before .before .before .before .before .rows .at < length (registerIn (now (c .before .before .before .before .before .before .before .before .before .before .before .before .before .args .register)) .rows) = omega arith in
-    let k = sym (c .before .before .before .row-key .ensures) ∙ sym (c .before .if2 .taken) in
-    ap recordKey e
-    ∙ fails (o .inv .1) (omega arith) (ap (fitRecord _) (sym e) ∙ wrong-there _ r _ h k (c .if3 .taken))
+    let k = c .before .before .before in
+    let l = k .before .before in
+    let h : l .rows .at < length (register (l .before) .rows) = omega arith in
+    found (l .before) (wrong-there _ _ (l .rows .at) h (sym (k .row-key .ensures) ∙ sym (c .before .if2 .taken)) (c .if3 .taken))
 
 returns-3 : tie.Need-returns-3 Inv-rows μ-rows Inv-records μ-records
-unfolding wrongKey
 returns-3 c =
-    let a = c .before .before .before .before .before .before .before .before .before .before .before .args in
-    let o = c .before .before .before .before .before .before .records in
-    let l = c .before .before .before .rows in
-    let g = registerIn (now (a .register)) in
-    let r = c .before .before .before .before .«record» .result in
-    let e = c .before .before .before .before .«record» .ensures in
-    let n = not-true _ (c .before .if4 .taken) in
-    let nowhere : Nowhere g (r .key) (l .at) =
-    ⊎-elim
-    (λ v. record { before = l .inv .2; there = λ h. absurd (omega (arith, v .0)) })
-    (λ v. ⊎-elim
-    (λ u. record { before = l .inv .2; there = λ h. omega (arith, u .1 .ensures, u .2 .taken) })
-    (λ u. absurd (clash (u .5) n)) v)
-    (c .before .before .rows-test .came)
-    in
-    ap recordKey e
-    ∙ fails (o .inv .1) (omega arith) (ap (fitRecord g) (sym e) ∙ wrong-nowhere g r (l .at) (register-sound _ (c .before .before .before .before .before .before .before .before .before .before .before .pre .0)) nowhere (c .if5 .taken))
+    let k = c .before .before in
+    let b = k .before .before in
+    found b (wrong-nowhere _ _ (k .before .rows .at) (register-sound _ (start b .pre .0)) (walked k .nowhere (not-true _ (c .before .if4 .taken))) (c .if5 .taken))
 
 pub wrong-key-spec : {M : Type 1} → statement M
 wrong-key-spec =

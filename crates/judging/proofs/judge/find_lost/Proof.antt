@@ -1,22 +1,22 @@
 -- The places before set i tell the first key lost.
 use Prim.Native.Nat.{ℕ, _-_, _≤_, _<_}
-use mathlib.Core.Path.{_≡_, _∙_}
+use mathlib.Core.Path.{_≡_, _∙_, ap}
 use native.Mathlib.Omega.{arith}
 use lib.ListN.{length, getD, length-set}
 use borrow.Author.Needs.{needs}
 use Rattle.rules.specs.Register.{Register}
-use Rattle.rules.specs.Sheet.{sheetIn}
+use Rattle.rules.specs.Sheet.{maxSets, sheetIn}
 use Rattle.sheets.specs.SheetReadings.{setAt}
-use Rattle.sheets.specs.SheetPlaces.{few-sets}
-use Rattle.judging.specs.Judged.{wrongKey, lostKey, Tells}
+use Rattle.sheets.specs.SheetSizes.{few-sets}
+use Rattle.judging.specs.Tables.{inTable, wrongKey, lostKey, Tells}
 use Rattle.laws.specs.Places.{told-more}
 use Rattle.judging.proofs.judge.find_lost.Statement.{statement}
 use Rattle.judging.proofs.judge.find_lost.Tie as tie
 
 abbrev Inv-loop : tie.InvT-loop
 Inv-loop sheet wrong lost₀ n i₀ lost i =
-    (i ≤ n) × (n ≤ 64) × (length lost ≡ 64)
-    × ((g : Register) → Tells (wrongKey g) (sheetIn sheet) wrong → (k : ℕ) → k < i → getD lost k 0 ≡ lostKey g (sheetIn sheet) (setAt (sheetIn sheet) k))
+    (i ≤ n) × (n ≤ maxSets) × (length lost ≡ maxSets)
+    × ((g : Register) → Tells (wrongKey g) (sheetIn sheet) wrong → (k : ℕ) → k < i → getD lost k 0 ≡ inTable (lostKey g (sheetIn sheet) (setAt (sheetIn sheet) k)))
 
 abbrev μ-loop : tie.MeasureT-loop
 μ-loop sheet wrong lost₀ n i₀ lost i = n - i
@@ -29,6 +29,9 @@ loop-holds c = (omega arith, omega (arith, few-sets _ (c .before .before .before
 
 lost-key-requires : tie.Need-lost-key-requires Inv-loop μ-loop
 lost-key-requires c κs = (search needs, search needs, omega arith)
+
+in-table-requires : tie.Need-in-table-requires Inv-loop μ-loop
+in-table-requires c κs = search needs
 
 mul-lost : tie.Need-mul-lost Inv-loop μ-loop
 mul-lost c = record { fits = omega arith }
@@ -44,8 +47,8 @@ loop-less c = search needs
 
 loop-again : tie.Need-loop-again Inv-loop μ-loop
 loop-again c =
-    let l = c .before .before .loop in
-    (omega arith, l .inv .1, length-set (l .lost) (l .i) _ ∙ l .inv .2, λ g t. told-more _ (l .lost) (l .i) _ (omega arith) (l .inv .3 g t) (c .lost-key .ensures g t))
+    let l = c .before .before .before .loop in
+    (omega arith, l .inv .1, length-set (l .lost) (l .i) _ ∙ l .inv .2, λ g t. told-more _ (l .lost) (l .i) _ (omega arith) (l .inv .3 g t) (c .in-table .ensures ∙ ap inTable (c .before .lost-key .ensures g t)))
 
 same-length : tie.Need-same-length Inv-loop μ-loop
 same-length c = search needs
@@ -62,6 +65,7 @@ find-lost-spec =
     set-count-requires
     loop-holds
     lost-key-requires
+    in-table-requires
     mul-lost
     slice-write-lost
     add-i

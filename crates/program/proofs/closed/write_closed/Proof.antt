@@ -8,12 +8,27 @@ use Rattle.program.proofs.PrintLaws.{Written, closed-written, refused-t
 use borrow.Author.Needs.{needs}
 use Rattle.program.proofs.closed.write_closed.Statement.{statement}
 use Rattle.program.proofs.closed.write_closed.Tie as tie
-use Rattle.program.proofs.closed.write_closed.Reads as reads
-use Rattle.program.proofs.closed.write_closed.Lts as lts
-use Rattle.closing.proofs.close.Reads as close-reads
-use Rattle.report.proofs.put_refused.Reads as put-refused-reads
-use Rattle.report.proofs.write_report.Reads as write-report-reads
-use Rattle.rules.proofs.answer.Refusal.number.Reads as number-reads
+
+-- the walk's stations: the closing, from where its buffers are had back, what it answered, from each of its ways on, and the start
+abbrev closing : tie.After-verdicts2 → tie.After-close
+closing c = c .before .before
+
+abbrev start : tie.After-close → tie.Start
+start c = c .before .before .before .before .before .before
+
+abbrev wrote-at : tie.After-write-report → tie.After-known-told
+wrote-at c = c .before .before .before .before
+
+abbrev refused-at : tie.After-put-refused → tie.After-answer2
+refused-at c = c .before .before .before .before
+
+-- what closing left, once it has written
+wrote : (c : tie.After-known-told)
+    → let k = closing (c .before .before .before) in let a = start k .args in let l = k .close .last .1 .1 in Written (now (a .register)) (now (a .sheet)) (l .0) (l .1 .0) (c .before .answer .given .0 .0)
+wrote c =
+    let k = closing (c .before .before .before) in
+    let a = start k .args in
+    closed-written (now (a .register)) (now (a .sheet)) _ _ _ _ (search needs) (search needs) (k .close .ensures) (c .before .answer .given .1)
 
 slice-aggregate-close : tie.Need-slice-aggregate-close
 slice-aggregate-close c = search needs
@@ -26,13 +41,6 @@ close-requires c κs = search needs
 
 enum-known-answer : tie.Need-enum-known-answer
 enum-known-answer c = search needs
-
--- what closing left, once it has written
-wrote : (c : lts.After-known-told (close-reads.Asked, close-reads.Learnt, write-report-reads.Asked, write-report-reads.Learnt, number-reads.Asked, number-reads.Learnt, put-refused-reads.Asked, put-refused-reads.Learnt) reads.Pre reads.Post)
-    → let a = c .before .before .before .before .before .before .before .before .before .before .before .args in let k = c .before .before .before .before .before .close .last .1 .1 in Written (now (a .register)) (now (a .sheet)) (k .0) (k .1 .0) (c .before .answer .given .0 .0)
-wrote c =
-    let a = c .before .before .before .before .before .before .before .before .before .before .before .args in
-    closed-written (now (a .register)) (now (a .sheet)) _ _ _ _ (search needs) (search needs) (c .before .before .before .before .before .close .ensures) (c .before .answer .given .1)
 
 array-share-prefix-next : tie.Need-array-share-prefix-next
 array-share-prefix-next c = wrote c .within
@@ -59,16 +67,19 @@ same-length : tie.Need-same-length
 same-length c = search needs
 
 returns : tie.Need-returns
-returns c = (put-as (wrote (c .before .before .before .before .before .before) .text) (c .before .before .write-report .ensures .0), search needs)
+returns c = let w = c .before .before in (put-as (wrote (wrote-at w) .text) (w .write-report .ensures .0), search needs)
 
 same-length-2 : tie.Need-same-length-2
 same-length-2 c = search needs
 
 returns-2 : tie.Need-returns-2
 returns-2 c =
-    let a = c .before .before .before .before .before .before .before .before .before .before .before .before .before .before .before .before .args in
-    let e = refused-text (now (a .register)) (now (a .sheet)) _ _ _ (search needs) (search needs) (c .before .before .before .before .before .before .before .before .before .before .close .ensures) (c .before .before .before .before .before .before .answer2 .given .1) in
-    (put-as (ap refusedText (c .before .before .before .number .ensures) ∙ e) (c .before .before .put-refused .ensures .0), omega (arith, c .before .before .put-refused .ensures .1))
+    let w = c .before .before in
+    let x = refused-at w in
+    let k = closing (x .before .before) in
+    let a = start k .args in
+    let e = refused-text (now (a .register)) (now (a .sheet)) _ _ _ (search needs) (search needs) (k .close .ensures) (x .answer2 .given .1) in
+    (put-as (ap refusedText (w .before .number .ensures) ∙ e) (w .put-refused .ensures .0), omega (arith, w .put-refused .ensures .1))
 
 pub write-closed-spec : {M : Type 1} → statement M
 write-closed-spec =

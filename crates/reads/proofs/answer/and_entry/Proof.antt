@@ -9,6 +9,10 @@ use Rattle.reads.proofs.EntryLaws.{stands}
 use Rattle.reads.proofs.answer.and_entry.Statement.{statement}
 use Rattle.reads.proofs.answer.and_entry.Tie as tie
 
+-- the walk's start, from a failing entry
+abbrev start : tie.After-this → tie.Start
+start c = c .before .before
+
 enum-told : tie.Need-enum-told
 enum-told c = search needs
 
@@ -32,8 +36,9 @@ returns c =
 returns-2 : tie.Need-returns-2
 unfolding findingOr
 returns-2 c =
-    let a = c .before .before .before .before .before .args in
-    sym (ap₂ (λ (b : Checked) (t : Entry). andEntry (outcomeOf b) (a .index) (a .key) (reasonOf t)) (c .enum-told2 .given .1) (c .before .before .before .this .given .1))
+    let t = c .before .before .before in
+    let a = start t .args in
+    sym (ap₂ (λ (b : Checked) (t : Entry). andEntry (outcomeOf b) (a .index) (a .key) (reasonOf t)) (c .enum-told2 .given .1) (t .this .given .1))
 
 returns-3 : tie.Need-returns-3
 returns-3 c = search needs

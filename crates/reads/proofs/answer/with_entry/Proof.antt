@@ -7,6 +7,10 @@ use Rattle.reads.proofs.StepLaws.{refusal-stays, bad-key, one-too-many,
 use Rattle.reads.proofs.answer.with_entry.Statement.{statement}
 use Rattle.reads.proofs.answer.with_entry.Tie as tie
 
+-- the walk's start
+abbrev start : tie.After-failing → tie.Start
+start c = c .before .before .before .before .before .before .before
+
 is-refused-requires : tie.Need-is-refused-requires
 is-refused-requires c κs = search needs
 
@@ -38,7 +42,7 @@ and-entry-requires c κs = search needs
 
 returns-4 : tie.Need-returns-4
 returns-4 c =
-    let a = c .before .before .before .before .before .before .before .before .args in
+    let a = start (c .before) .args in
     c .and-entry .ensures ∙ ap (andEntry (outcomeOf (a .before)) (a .i) (a .read .key)) (c .before .failing .ensures) ∙ sym (judged _ _ _ _ _ _ (omega arith) (omega arith))
 
 pub with-entry-spec : {M : Type 1} → statement M

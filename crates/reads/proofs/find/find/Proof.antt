@@ -6,8 +6,8 @@ use denote.Ref.{now}
 use borrow.Author.Needs.{needs}
 use lib.ListN.{length}
 use Rattle.rules.specs.Register.{registerIn}
-use Rattle.laws.specs.RegisterLaws.{soundRegister→, register-sound}
-use Rattle.registers.specs.RegisterForm.{rowAt}
+use Rattle.laws.specs.RegisterLaws.{register-sound}
+use Rattle.registers.specs.RegisterReadings.{rowAt}
 use Rattle.reads.proofs.RowLaws.{beyond, there, absent}
 use Rattle.reads.proofs.find.find.Statement.{statement}
 use Rattle.reads.proofs.find.find.Tie as tie
@@ -18,6 +18,13 @@ Inv-loop register key lo₀ hi₀ lo hi =
 
 abbrev μ-loop : tie.MeasureT-loop
 μ-loop register key lo₀ hi₀ lo hi = hi - lo
+
+-- the walk's stations: the turn, and the start
+abbrev turn : tie.Else1 Inv-loop μ-loop → tie.At-loop Inv-loop μ-loop
+turn c = c .before .before .before
+
+abbrev start : tie.At-loop Inv-loop μ-loop → tie.Start Inv-loop μ-loop
+start c = c .before .before .before
 
 row-count-requires : tie.Need-row-count-requires Inv-loop μ-loop
 row-count-requires c κs = search needs
@@ -39,8 +46,9 @@ row-requires c κs = search needs
 
 returns : tie.Need-returns Inv-loop μ-loop
 returns c =
-    let s = c .before .before .before .before .before .before .before in
-    let l = c .before .before .before .before .loop in
+    let t = c .before .before .before .before in
+    let s = start t in
+    let l = t .loop in
     there (now (s .args .register)) (s .pre) (l .lo + (l .hi - l .lo) / 2) (s .args .key) (omega arith) (omega arith) (c .row .ensures)
 
 add-lo : tie.Need-add-lo Inv-loop μ-loop
@@ -51,11 +59,12 @@ loop-less c = search needs
 
 loop-again : tie.Need-loop-again Inv-loop μ-loop
 loop-again c =
-    let s = c .before .before .before .before .before .before .before in
-    let l = c .before .before .before .before .loop in
+    let t = turn (c .before) in
+    let s = start t in
+    let l = t .loop in
     let b = now (s .args .register) in
     let m = l .lo + (l .hi - l .lo) / 2 in
-    let past = beyond (registerIn b) (soundRegister→ (registerIn b) (register-sound b (s .pre))) in
+    let past = beyond (registerIn b) (register-sound b (s .pre)) in
     (omega arith, omega arith, λ k h e. (omega (arith, past m k (omega arith) (omega arith)), l .inv .2 k h e .1))
 
 loop-less-2 : tie.Need-loop-less-2 Inv-loop μ-loop
@@ -63,16 +72,17 @@ loop-less-2 c = search needs
 
 loop-again-2 : tie.Need-loop-again-2 Inv-loop μ-loop
 loop-again-2 c =
-    let s = c .before .before .before .before .before .before .before in
-    let l = c .before .before .before .before .loop in
+    let t = turn (c .before) in
+    let s = start t in
+    let l = t .loop in
     let b = now (s .args .register) in
     let m = l .lo + (l .hi - l .lo) / 2 in
-    let past = beyond (registerIn b) (soundRegister→ (registerIn b) (register-sound b (s .pre))) in
+    let past = beyond (registerIn b) (register-sound b (s .pre)) in
     (omega arith, omega arith, λ k h e. (l .inv .2 k h e .0, past k m h (omega arith)))
 
 returns-2 : tie.Need-returns-2 Inv-loop μ-loop
 returns-2 c =
-    let s = c .before .before .before .before in
+    let s = start (c .before) in
     absent (registerIn (now (s .args .register))) (s .args .key) (λ k h e. omega (arith, c .before .loop .inv .2 k h e))
 
 pub find-spec : {M : Type 1} → statement M

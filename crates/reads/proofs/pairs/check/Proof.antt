@@ -20,6 +20,16 @@ Inv-loop register mode lsn keys csns answer₀ n i₀ answer i =
 abbrev μ-loop : tie.MeasureT-loop
 μ-loop register mode lsn keys csns answer₀ n i₀ answer i = n - i
 
+-- the walk's stations: the turn, and the start
+abbrev turn : tie.After-with-entry Inv-loop μ-loop → tie.At-loop Inv-loop μ-loop
+turn c = c .before .before .before .before
+
+abbrev start : tie.After-on-none Inv-loop μ-loop → tie.Start Inv-loop μ-loop
+start c = c .before .before .before .before
+
+abbrev entered : tie.At-loop Inv-loop μ-loop → tie.After-on-none Inv-loop μ-loop
+entered c = c .before .before .before
+
 on-none-requires : tie.Need-on-none-requires Inv-loop μ-loop
 on-none-requires c κs = search needs
 
@@ -28,7 +38,7 @@ ill-formed-requires c κs = search needs
 
 returns : tie.Need-returns Inv-loop μ-loop
 returns c =
-    let s = c .before .before .before .before .before .before in
+    let s = start (c .before .before) in
     promised _ (c .ill-formed .ensures ∙ ap illFormed (c .before .before .on-none .ensures) ∙ sym (check-unpaired (now (s .args .register)) (s .args .mode) (s .args .lsn) (now (s .args .keys)) (now (s .args .csns)) (omega arith)))
 
 enough-requires : tie.Need-enough-requires Inv-loop μ-loop
@@ -60,8 +70,9 @@ loop-less c = search needs
 
 loop-again : tie.Need-loop-again Inv-loop μ-loop
 loop-again c =
-    let l = c .before .before .before .before .loop in
-    let s = c .before .before .before .before .before .before .before .before .before .before .before in
+    let t = turn c in
+    let l = t .loop in
+    let s = start (entered t) in
     let ks = now (s .args .keys) in
     let cs = now (s .args .csns) in (
       omega arith,
@@ -73,7 +84,7 @@ loop-again c =
 returns-2 : tie.Need-returns-2 Inv-loop μ-loop
 returns-2 c =
     let l = c .before .loop in
-    let s = c .before .before .before .before .before .before .before .before in
+    let s = start (entered (c .before)) in
     let b = now (s .args .register) in
     let ks = now (s .args .keys) in
     let cs = now (s .args .csns) in

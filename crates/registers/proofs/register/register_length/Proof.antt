@@ -1,10 +1,16 @@
 -- Too few bytes or too many rows tell no length.
 use native.Mathlib.Omega.{arith}
 use denote.Ref.{now}
-use Rattle.registers.proofs.RegisterBy.{length-none, length-told}
+use mathlib.Core.Path.{sym, _∙_, ap}
+use Rattle.rules.specs.declared.extent.Extent.the-variants.{Of}
+use Rattle.registers.specs.RegisterLength.{length-none, length-told}
 use borrow.Author.Needs.{needs}
 use Rattle.registers.proofs.register.register_length.Statement.{statement}
 use Rattle.registers.proofs.register.register_length.Tie as tie
+
+-- the walk's start
+abbrev start : tie.After-length-of → tie.Start
+start c = c .before .before .before .before .before
 
 returns : tie.Need-returns
 returns c = length-none _ (λ w. omega arith)
@@ -18,15 +24,14 @@ cast-n c = search needs
 returns-2 : tie.Need-returns-2
 returns-2 c = length-none _ (λ w. omega arith)
 
-mul-result : tie.Need-mul-result
-mul-result c = search needs
-
-add-result : tie.Need-add-result
-add-result c = search needs
+length-of-requires : tie.Need-length-of-requires
+length-of-requires c κs = search needs
 
 returns-3 : tie.Need-returns-3
-returns-3 c = let b = now (c .before .before .before .before .args .head) in omega (arith, length-told b (omega arith) (omega arith))
+returns-3 c =
+    let b = now (start c .args .head) in
+    ap Of (c .length-of .ensures ∙ omega arith) ∙ sym (length-told b (omega arith) (omega arith))
 
 pub register-length-spec : {M : Type 1} → statement M
 register-length-spec =
-    tie.close (tie.spec returns get32-requires cast-n returns-2 mul-result add-result returns-3)
+    tie.close (tie.spec returns get32-requires cast-n returns-2 length-of-requires returns-3)

@@ -5,6 +5,16 @@ use borrow.Author.Needs.{needs}
 use Rattle.report.proofs.line.put_mark.Statement.{statement}
 use Rattle.report.proofs.line.put_mark.Tie as tie
 
+-- the walk's stations: each writing, from the one after it
+abbrev third : tie.After-slice-known4 → tie.After-put-field3
+third c = c .before .before
+
+abbrev second : tie.After-put-field3 → tie.After-put-field2
+second c = c .before .before .before .before .before
+
+abbrev first : tie.After-put-field2 → tie.After-put-field
+first c = c .before .before .before .before .before .before
+
 slice-aggregate-put-field : tie.Need-slice-aggregate-put-field
 slice-aggregate-put-field c = search needs
 
@@ -35,9 +45,9 @@ same-length c = search needs
 returns : tie.Need-returns
 unfolding markText
 returns c =
-    let w3 = c .before .before in
-    let w2 = w3 .before .before .before .before .before in
-    let w1 = w2 .before .before .before .before .before .before in
+    let w3 = third c in
+    let w2 = second w3 in
+    let w1 = first w2 in
     (then-put (then-put (w1 .put-field .ensures .0) (w2 .put-field2 .ensures .0)) (w3 .put-field3 .ensures .0), search needs)
 
 pub put-mark-spec : {M : Type 1} → statement M

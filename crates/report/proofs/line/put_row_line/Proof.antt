@@ -5,6 +5,19 @@ use borrow.Author.Needs.{needs}
 use Rattle.report.proofs.line.put_row_line.Statement.{statement}
 use Rattle.report.proofs.line.put_row_line.Tie as tie
 
+-- the walk's stations: each writing, from the one after it
+abbrev ended : tie.After-slice-known5 → tie.After-end-line
+ended c = c .before .before
+
+abbrev marked : tie.After-end-line → tie.After-put-mark
+marked c = c .before .before .before .before
+
+abbrev valued : tie.After-put-mark → tie.After-put-field2
+valued c = c .before .before .before .before
+
+abbrev keyed : tie.After-put-field2 → tie.After-put-field
+keyed c = c .before .before .before .before .before
+
 slice-aggregate-put-field : tie.Need-slice-aggregate-put-field
 slice-aggregate-put-field c = search needs
 
@@ -32,10 +45,10 @@ same-length c = search needs
 returns : tie.Need-returns
 unfolding rowLine
 returns c =
-    let w4 = c .before .before in
-    let w3 = w4 .before .before .before .before in
-    let w2 = w3 .before .before .before .before in
-    let w1 = w2 .before .before .before .before .before in
+    let w4 = ended c in
+    let w3 = marked w4 in
+    let w2 = valued w3 in
+    let w1 = keyed w2 in
     (then-put (then-put (then-put (w1 .put-field .ensures .0) (w2 .put-field2 .ensures .0)) (w3 .put-mark .ensures .0)) (w4 .end-line .ensures .0), search needs)
 
 pub put-row-line-spec : {M : Type 1} → statement M

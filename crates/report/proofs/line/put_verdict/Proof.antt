@@ -4,6 +4,16 @@ use borrow.Author.Needs.{needs}
 use Rattle.report.proofs.line.put_verdict.Statement.{statement}
 use Rattle.report.proofs.line.put_verdict.Tie as tie
 
+-- the walk's stations: which verdict it is, from each writing
+abbrev commit : tie.After-put-field → tie.After-enum-told
+commit c = c .before .before .before
+
+abbrev lost : tie.After-put-field2 → tie.After-verdict
+lost c = c .before .before .before .before
+
+abbrev unfit : tie.After-put-field3 → tie.After-verdict2
+unfit c = c .before .before .before .before
+
 enum-told : tie.Need-enum-told
 enum-told c = search needs
 
@@ -42,21 +52,21 @@ same-length c = search needs
 
 returns : tie.Need-returns
 unfolding verdictText
-returns c = rw (c .before .before .before .before .before .enum-told .given .1) (c .before .before .put-field .ensures .0, search needs)
+returns c = let w = c .before .before in rw (commit w .enum-told .given .1) (w .put-field .ensures .0, search needs)
 
 same-length-2 : tie.Need-same-length-2
 same-length-2 c = search needs
 
 returns-2 : tie.Need-returns-2
 unfolding verdictText
-returns-2 c = rw (c .before .before .before .before .before .before .verdict .given .1) (c .before .before .put-field2 .ensures .0, search needs)
+returns-2 c = let w = c .before .before in rw (lost w .verdict .given .1) (w .put-field2 .ensures .0, search needs)
 
 same-length-3 : tie.Need-same-length-3
 same-length-3 c = search needs
 
 returns-3 : tie.Need-returns-3
 unfolding verdictText
-returns-3 c = rw (c .before .before .before .before .before .before .verdict2 .given .1) (c .before .before .put-field3 .ensures .0, search needs)
+returns-3 c = let w = c .before .before in rw (unfit w .verdict2 .given .1) (w .put-field3 .ensures .0, search needs)
 
 pub put-verdict-spec : {M : Type 1} → statement M
 put-verdict-spec =

@@ -21,6 +21,10 @@ Inv-loop register out₀ at n end₀ i₀ out end i =
 abbrev μ-loop : tie.MeasureT-loop
 μ-loop register out₀ at n end₀ i₀ out end i = n - i
 
+-- the walk's start, from the loop
+abbrev start : tie.At-loop Inv-loop μ-loop → tie.Start Inv-loop μ-loop
+start c = c .before .before .before .before
+
 row-count-requires : tie.Need-row-count-requires Inv-loop μ-loop
 row-count-requires c κs = search needs
 
@@ -53,7 +57,7 @@ same-length c = omega arith
 returns : tie.Need-returns Inv-loop μ-loop
 returns c =
     let l = c .before in
-    let rows = registerIn (now (l .before .before .before .before .args .register)) .rows in
+    let rows = registerIn (now (start l .args .register)) .rows in
     let all : flat rowLine (take (l .loop .i) rows) ≡ flat rowLine rows = ap (flat rowLine) (take-all (l .loop .i) rows (omega arith)) in
     (rw all at (l .loop .inv .3), omega arith)
 

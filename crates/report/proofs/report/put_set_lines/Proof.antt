@@ -19,6 +19,10 @@ Inv-loop sheet verdicts out₀ at n end₀ i₀ out end i =
 abbrev μ-loop : tie.MeasureT-loop
 μ-loop sheet verdicts out₀ at n end₀ i₀ out end i = n - i
 
+-- the walk's start, from the loop
+abbrev start : tie.At-loop Inv-loop μ-loop → tie.Start Inv-loop μ-loop
+start c = c .before .before .before .before .before
+
 set-count-requires : tie.Need-set-count-requires Inv-loop μ-loop
 set-count-requires c κs = search needs
 
@@ -55,7 +59,7 @@ same-length c = omega arith
 returns : tie.Need-returns Inv-loop μ-loop
 returns c =
     let l = c .before in
-    let a = l .before .before .before .before .before .args in
+    let a = start l .args in
     (rw (sets-whole (sheetIn (now (a .sheet))) (now (a .verdicts)) (l .loop .i) (omega arith)) at (l .loop .inv .3), omega arith)
 
 pub put-set-lines-spec : {M : Type 1} → statement M

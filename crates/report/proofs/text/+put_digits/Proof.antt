@@ -64,7 +64,10 @@ same-length-2 : (t : ℕ) → lts.Need-same-length-2 (below t, reads.Post) (at t
 same-length-2 t c = search needs
 
 returns-3 : (t : ℕ) → lts.Need-returns-3 (below t, reads.Post) (at t) reads.Post
-returns-3 t c = (last-digit _ _ (c .before .before .before .before .before .if1 .left) (c .before .before .before .before .if2 .left) (c .before .before .put-digits .ensures .0), search needs)
+returns-3 t c =
+    let w = c .before .before in
+    let tests = w .before .before in
+    (last-digit _ _ (tests .before .if1 .left) (tests .if2 .left) (w .put-digits .ensures .0), search needs)
 
 pub +put-digits-spec : {M : Type 1} → statement M
 +put-digits-spec =

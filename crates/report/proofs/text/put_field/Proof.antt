@@ -6,6 +6,10 @@ use borrow.Author.Needs.{needs}
 use Rattle.report.proofs.text.put_field.Statement.{statement}
 use Rattle.report.proofs.text.put_field.Tie as tie
 
+-- the walk's stations: each writing, from the one after it
+abbrev copied : tie.After-put-decimal → tie.After-copy
+copied c = c .before .before .before .before
+
 copy-requires : tie.Need-copy-requires
 copy-requires c κs = search needs
 
@@ -21,8 +25,8 @@ same-length c = search needs
 returns : tie.Need-returns
 unfolding field
 returns c =
-    let w1 = c .before .before .before .before .before .before in
     let w2 = c .before .before in
+    let w1 = copied w2 in
     (then-put (put-copied _ _ _ (w1 .copy .ensures)) (w2 .put-decimal .ensures .0), omega (arith, w2 .put-decimal .ensures .1))
 
 pub put-field-spec : {M : Type 1} → statement M

@@ -4,7 +4,7 @@ use denote.Ref.{now}
 use Prim.Native.Nat.{ℕ, _+_, _*_, _-_}
 use mathlib.Core.Path.{_≡_, _∙_, ap, ap₂}
 use lib.ListN.{take, drop}
-use Rattle.sheets.specs.SheetPlaces.{body-room, body-part}
+use Rattle.sheets.proofs.SheetPlaces.{body-room, body-part}
 use borrow.Author.Needs.{needs}
 use Rattle.sheets.proofs.reading.body.Statement.{statement}
 use Rattle.sheets.proofs.reading.body.Tie as tie

@@ -2,7 +2,7 @@
 use native.Mathlib.Omega.{arith}
 use denote.Ref.{now}
 use mathlib.Core.Path.{_∙_}
-use Rattle.sheets.specs.SheetPlaces.{room, entry-room, set-count, first-record}
+use Rattle.sheets.proofs.SheetPlaces.{room, entry-room, set-count, first-record}
 use Rattle.sheets.specs.SheetReadings.{bodyPlace}
 use borrow.Author.Needs.{needs}
 use Rattle.sheets.proofs.reading.body_place.Statement.{statement}

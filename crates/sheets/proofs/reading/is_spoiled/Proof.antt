@@ -3,7 +3,7 @@ use native.Mathlib.Omega.{arith}
 use denote.Ref.{now}
 use mathlib.Core.Path.{refl}
 use Rattle.rules.specs.Sheet.{sheetIn}
-use Rattle.sheets.specs.SheetPlaces.{room}
+use Rattle.sheets.proofs.SheetPlaces.{room}
 use Rattle.sheets.proofs.reading.is_spoiled.Statement.{statement}
 use Rattle.sheets.proofs.reading.is_spoiled.Tie as tie
 

@@ -1,7 +1,7 @@
 -- The notice byte of a master.
 use native.Mathlib.Omega.{arith}
 use denote.Ref.{now}
-use Rattle.sheets.specs.SheetPlaces.{room, notice-place}
+use Rattle.sheets.proofs.SheetPlaces.{room, notice-place}
 use borrow.Author.Needs.{needs}
 use Rattle.sheets.proofs.reading.notice.Statement.{statement}
 use Rattle.sheets.proofs.reading.notice.Tie as tie

@@ -4,7 +4,7 @@ use denote.Ref.{now}
 use mathlib.Core.Path.{_∙_, sym, ap}
 use Rattle.rules.specs.Sheet.{recordIn}
 use Prim.Native.Nat.{ℕ, _+_, _*_}
-use Rattle.sheets.specs.SheetPlaces.{body-room, record-place}
+use Rattle.sheets.proofs.SheetPlaces.{body-room, record-place}
 use borrow.Author.Needs.{needs}
 use Rattle.sheets.proofs.reading.record.Statement.{statement}
 use Rattle.sheets.proofs.reading.record.Tie as tie

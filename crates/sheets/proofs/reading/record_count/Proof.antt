@@ -2,7 +2,7 @@
 use native.Mathlib.Omega.{arith}
 use denote.Ref.{now}
 use mathlib.Core.Path.{_∙_}
-use Rattle.sheets.specs.SheetPlaces.{entry-room, record-count}
+use Rattle.sheets.proofs.SheetPlaces.{entry-room, record-count}
 use borrow.Author.Needs.{needs}
 use Rattle.sheets.proofs.reading.record_count.Statement.{statement}
 use Rattle.sheets.proofs.reading.record_count.Tie as tie

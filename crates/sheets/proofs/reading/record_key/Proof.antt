@@ -6,7 +6,7 @@ use Prim.Native.Nat.{ℕ, _+_, _*_}
 use Rattle.words.specs.Words.{word}
 use Rattle.rules.specs.declared.row.Record.{Record}
 use Rattle.rules.specs.Sheet.{recordIn}
-use Rattle.sheets.specs.SheetPlaces.{body-room, record-place}
+use Rattle.sheets.proofs.SheetPlaces.{body-room, record-place}
 use borrow.Author.Needs.{needs}
 use Rattle.sheets.proofs.reading.record_key.Statement.{statement}
 use Rattle.sheets.proofs.reading.record_key.Tie as tie

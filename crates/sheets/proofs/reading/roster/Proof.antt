@@ -2,7 +2,7 @@
 use native.Mathlib.Omega.{arith}
 use denote.Ref.{now}
 use Rattle.rules.specs.Sheet.{sheetIn}
-use Rattle.sheets.specs.SheetPlaces.{room}
+use Rattle.sheets.proofs.SheetPlaces.{room}
 use Rattle.sheets.proofs.reading.roster.Statement.{statement}
 use Rattle.sheets.proofs.reading.roster.Tie as tie
 

@@ -2,7 +2,7 @@
 use native.Mathlib.Omega.{arith}
 use denote.Ref.{now}
 use mathlib.Core.Path.{sym}
-use Rattle.sheets.specs.SheetPlaces.{room, set-count}
+use Rattle.sheets.proofs.SheetPlaces.{room, set-count}
 use Rattle.sheets.proofs.reading.set_count.Statement.{statement}
 use Rattle.sheets.proofs.reading.set_count.Tie as tie
 

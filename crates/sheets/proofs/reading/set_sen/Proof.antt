@@ -2,7 +2,7 @@
 use native.Mathlib.Omega.{arith}
 use denote.Ref.{now}
 use mathlib.Core.Path.{_∙_}
-use Rattle.sheets.specs.SheetPlaces.{entry-room, set-sen}
+use Rattle.sheets.proofs.SheetPlaces.{entry-room, set-sen}
 use Rattle.sheets.proofs.reading.set_sen.Statement.{statement}
 use Rattle.sheets.proofs.reading.set_sen.Tie as tie
 

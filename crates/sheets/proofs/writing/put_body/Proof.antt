@@ -2,10 +2,13 @@
 use mathlib.Core.Path.{_∙_, ap}
 use Rattle.words.specs.Words.{stored}
 use denote.Ref.{now}
-use Rattle.sheets.specs.SheetWritten.{whole-part}
+use Rattle.words.specs.WordLaws.{whole-part}
 use borrow.Author.Needs.{needs}
 use Rattle.sheets.proofs.writing.put_body.Statement.{statement}
 use Rattle.sheets.proofs.writing.put_body.Tie as tie
+
+abbrev start : tie.After-copy → tie.Start
+start c = c .before .before .before .before
 
 mul-copy : tie.Need-mul-copy
 mul-copy c = search needs
@@ -27,8 +30,9 @@ same-length c = search needs
 
 returns : tie.Need-returns
 returns c =
-    let s = c .before .before .before .before .before .before in
-    c .before .before .copy .ensures ∙ ap (stored (now (s .args .out)) _) (whole-part (now (s .args .body)))
+    let w = c .before .before in
+    let s = start w in
+    w .copy .ensures ∙ ap (stored (now (s .args .out)) _) (whole-part (now (s .args .body)))
 
 pub put-body-spec : {M : Type 1} → statement M
 put-body-spec =

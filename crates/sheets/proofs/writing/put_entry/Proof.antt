@@ -1,5 +1,5 @@
 -- Four words, each where the one before it ends.
-use Rattle.sheets.specs.SheetWritten.{entry-stored}
+use Rattle.sheets.proofs.PartsStored.{entry-stored}
 use borrow.Author.Needs.{needs}
 use Rattle.sheets.proofs.writing.put_entry.Statement.{statement}
 use Rattle.sheets.proofs.writing.put_entry.Tie as tie

@@ -1,10 +1,13 @@
 -- The first eight bytes, each where the one before it ends.
 use lib.ListN.{length-set}
 use native.Mathlib.Omega.{arith}
-use Rattle.sheets.specs.SheetWritten.{start-stored}
+use Rattle.sheets.proofs.PartsStored.{start-stored}
 use borrow.Author.Needs.{needs}
 use Rattle.sheets.proofs.writing.put_sheet_start.Statement.{statement}
 use Rattle.sheets.proofs.writing.put_sheet_start.Tie as tie
+
+abbrev dated : tie.After-put16 → tie.After-put32
+dated c = c .before .before .before .before
 
 put32-requires : tie.Need-put32-requires
 put32-requires c κs = search needs
@@ -28,7 +31,7 @@ same-length : tie.Need-same-length
 same-length c = simp length-set (omega arith)
 
 returns : tie.Need-returns
-returns c = start-stored _ _ _ _ _ _ (c .before .before .before .before .before .before .before .put32 .ensures) (c .before .before .before .put16 .ensures) (c .state-byte .ensures)
+returns c = let w = c .before .before .before in start-stored _ _ _ _ _ _ (dated w .put32 .ensures) (w .put16 .ensures) (c .state-byte .ensures)
 
 pub put-sheet-start-spec : {M : Type 1} → statement M
 put-sheet-start-spec =

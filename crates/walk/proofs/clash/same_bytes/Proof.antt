@@ -17,6 +17,12 @@ Inv-loop s t i₀ i = (i ≤ length s) × ((k : ℕ) → k < i → getD s k 0 �
 abbrev μ-loop : tie.MeasureT-loop
 μ-loop s t i₀ i = length s - i
 
+abbrev turn : tie.After-shared-slice-known2 Inv-loop μ-loop → tie.At-loop Inv-loop μ-loop
+turn c = c .before .before .before
+
+abbrev start : tie.At-loop Inv-loop μ-loop → tie.Start Inv-loop μ-loop
+start l = l .before .before
+
 returns : tie.Need-returns Inv-loop μ-loop
 returns c =
     let s = c .before in
@@ -33,9 +39,9 @@ shared-slice-read-if2-2 c = omega arith
 
 returns-2 : tie.Need-returns-2 Inv-loop μ-loop
 returns-2 c =
-    let s = c .before .before .before .before .before .before in
-    let i = c .before .before .before .before .loop .i in
-    not-same (now (s .args .s)) (now (s .args .t)) (λ e. c .if2 .taken (ap (λ (l : Bytes). getD l i 0) e))
+    let l = turn (c .before) in
+    let s = start l in
+    not-same (now (s .args .s)) (now (s .args .t)) (λ e. c .if2 .taken (ap (λ (x : Bytes). getD x (l .loop .i) 0) e))
 
 add-i : tie.Need-add-i Inv-loop μ-loop
 add-i c = omega arith
@@ -45,12 +51,13 @@ loop-less c = omega arith
 
 loop-again : tie.Need-loop-again Inv-loop μ-loop
 loop-again c =
-    let s = c .before .before .before .before .before .before in
-    (omega arith, below-more (λ (k : ℕ). getD (now (s .args .s)) k 0 ≡ getD (now (s .args .t)) k 0) _ (c .before .before .before .before .loop .inv .1) (c .if2 .left))
+    let l = turn (c .before) in
+    let s = start l in
+    (omega arith, below-more (λ (k : ℕ). getD (now (s .args .s)) k 0 ≡ getD (now (s .args .t)) k 0) _ (l .loop .inv .1) (c .if2 .left))
 
 returns-3 : tie.Need-returns-3 Inv-loop μ-loop
 returns-3 c =
-    let s = c .before .before .before in
+    let s = start (c .before) in
     let l = c .before .loop in
     are-same (now (s .args .s)) (now (s .args .t))
     (ext-getD 0 (now (s .args .s)) (now (s .args .t)) (omega arith) (λ k h. l .inv .1 k (omega arith)))

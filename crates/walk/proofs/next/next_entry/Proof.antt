@@ -1,34 +1,49 @@
 -- Read from the sheet that the next set is taken from.
-use denote.Ref.{now}
 use borrow.Author.Needs.{needs}
-use Rattle.walk.specs.Steps.{is-first, is-second}
+use Rattle.walk.proofs.Decisions.{of-first, of-second, of-both}
 use Rattle.walk.proofs.next.next_entry.Statement.{statement}
 use Rattle.walk.proofs.next.next_entry.Tie as tie
 
-from-first-requires : tie.Need-from-first-requires
-from-first-requires c κs = search needs
+abbrev start : tie.After-shared-slice-known2 → tie.Start
+start c = c .before .before
+
+enum-told : tie.Need-enum-told
+enum-told c = search needs
 
 entry-at-requires : tie.Need-entry-at-requires
-entry-at-requires c κs =
-    let s = c .before .before .before .before in
-    (s .pre .at .one, is-first (now (s .args .a)) (now (s .args .b)) (s .args .p) _ (c .before .from-first .ensures) (c .if1 .taken) .0)
+entry-at-requires c κs = let s = start (c .before .before) in (s .pre .0 .one, of-first _ _ _ _ (s .pre .1) (c .enum-told .given .1) .0)
 
-returns : tie.Need-returns
-returns c =
-    let s = c .before .before .before .before .before in
-    rw (is-first (now (s .args .a)) (now (s .args .b)) (s .args .p) _ (c .before .before .from-first .ensures) (c .before .if1 .taken) .1) (c .entry-at .ensures)
+enum-told-2 : tie.Need-enum-told-2
+enum-told-2 c = search needs
 
 entry-at-requires-2 : tie.Need-entry-at-requires-2
-entry-at-requires-2 c κs =
-    let s = c .before .before .before .before in
-    (s .pre .at .two, is-second (now (s .args .a)) (now (s .args .b)) (s .args .p) _ (c .before .from-first .ensures) (c .if1 .left) .0)
+entry-at-requires-2 c κs = let s = start (c .before .before) in (s .pre .0 .two, of-second _ _ _ _ (s .pre .1) (c .enum-told2 .given .1) .0)
+
+enum-told-3 : tie.Need-enum-told-3
+enum-told-3 c = search needs
+
+entry-at-requires-3 : tie.Need-entry-at-requires-3
+entry-at-requires-3 c κs = let s = start (c .before .before) in (s .pre .0 .two, of-both _ _ _ _ (s .pre .1) (c .enum-told3 .given .1) .0)
+
+returns : tie.Need-returns
+returns c = let s = start (c .before .before .before) in rw (of-first _ _ _ _ (s .pre .1) (c .before .enum-told .given .1) .1) (c .entry-at .ensures)
 
 returns-2 : tie.Need-returns-2
-returns-2 c =
-    let s = c .before .before .before .before .before in
-    rw (is-second (now (s .args .a)) (now (s .args .b)) (s .args .p) _ (c .before .before .from-first .ensures) (c .before .if1 .left) .1) (c .entry-at2 .ensures)
+returns-2 c = let s = start (c .before .before .before) in rw (of-second _ _ _ _ (s .pre .1) (c .before .enum-told2 .given .1) .1) (c .entry-at2 .ensures)
+
+returns-3 : tie.Need-returns-3
+returns-3 c = let s = start (c .before .before .before) in rw (of-both _ _ _ _ (s .pre .1) (c .before .enum-told3 .given .1) .1) (c .entry-at3 .ensures)
 
 pub next-entry-spec : {M : Type 1} → statement M
 next-entry-spec =
     tie.close
-    (tie.spec from-first-requires entry-at-requires returns entry-at-requires-2 returns-2)
+    (tie.spec
+    enum-told
+    entry-at-requires
+    enum-told-2
+    entry-at-requires-2
+    enum-told-3
+    entry-at-requires-3
+    returns
+    returns-2
+    returns-3)

@@ -12,6 +12,9 @@ use borrow.Author.Needs.{needs}
 use Rattle.walk.proofs.notices.differ_at.Statement.{statement}
 use Rattle.walk.proofs.notices.differ_at.Tie as tie
 
+abbrev read : tie.After-notice2 → tie.Start
+read c = c .before .before .before .before
+
 notice-requires : tie.Need-notice-requires
 notice-requires c κs = search needs
 
@@ -20,17 +23,17 @@ notice-requires-2 c κs = search needs
 
 returns : tie.Need-returns
 returns c =
-    let s = c .before .before .before .before .before in
+    let s = read (c .before) in
     no-first (sheetIn (now (s .args .a))) (sheetIn (now (s .args .b))) (s .args .m) (omega arith)
 
 returns-2 : tie.Need-returns-2
 returns-2 c =
-    let s = c .before .before .before .before .before .before in
+    let s = read (c .before .before) in
     no-second (sheetIn (now (s .args .a))) (sheetIn (now (s .args .b))) (s .args .m) (λ e. c .before .if1 .left (c .before .before .before .notice .ensures ∙ e)) (omega arith)
 
 returns-3 : tie.Need-returns-3
 returns-3 c =
-    let s = c .before .before .before .before .before .before in
+    let s = read (c .before .before) in
     ap₂ (λ (x y : ℕ). not (eqb x y)) (c .before .before .before .notice .ensures) (c .before .before .notice2 .ensures)
     ∙ two-noticed (sheetIn (now (s .args .a))) (sheetIn (now (s .args .b))) (s .args .m) (λ e. c .before .if1 .left (c .before .before .before .notice .ensures ∙ e)) (λ e. c .if2 .left (c .before .before .notice2 .ensures ∙ e))
 

@@ -1,5 +1,6 @@
 -- No master that is passed has two different notices, or more sets than its notice.
 use Rattle.walk.proofs.Masters.{found, none-found}
+use Rattle.sheets.specs.SheetReadings.{masterCount}
 use Rattle.walk.specs.Walk.{noticeSpoils}
 use Rattle.laws.specs.Tests.{or-left, or-right}
 use Rattle.rules.specs.Lists.{_or_}
@@ -13,28 +14,37 @@ use Rattle.walk.proofs.notices.notices_spoil.Statement.{statement}
 use Rattle.walk.proofs.notices.notices_spoil.Tie as tie
 
 abbrev Inv-loop : tie.InvT-loop
-Inv-loop a b m₀ m = (m ≤ 16) × ((k : ℕ) → k < m → noticeSpoils (sheetIn a) (sheetIn b) k ≡ false)
+Inv-loop a b m₀ m = (m ≤ masterCount) × ((k : ℕ) → k < m → noticeSpoils (sheetIn a) (sheetIn b) k ≡ false)
 
 abbrev μ-loop : tie.MeasureT-loop
-μ-loop a b m₀ m = 16 - m
+μ-loop a b m₀ m = masterCount - m
+
+abbrev start : tie.At-loop Inv-loop μ-loop → tie.Start Inv-loop μ-loop
+start l = l .before .before .before
+
+abbrev differed : tie.After-differ-at Inv-loop μ-loop → tie.At-loop Inv-loop μ-loop
+differed c = c .before .before
+
+abbrev overed : tie.After-over-at Inv-loop μ-loop → tie.After-differ-at Inv-loop μ-loop
+overed c = c .before .before
 
 loop-holds : tie.Need-loop-holds Inv-loop μ-loop
 loop-holds c = (omega arith, λ k l. absurd (omega arith))
 
 differ-at-requires : tie.Need-differ-at-requires Inv-loop μ-loop
-differ-at-requires c κs = (c .before .before .before .before .pre, omega arith)
+differ-at-requires c κs = (start (c .before) .pre, omega arith)
 
 returns : tie.Need-returns Inv-loop μ-loop
 unfolding noticeSpoils
-returns c = found _ (c .before .before .before .loop .m) (omega arith) (or-left _ _ (sym (c .before .differ-at .ensures) ∙ c .if1 .taken))
+returns c = found _ (differed (c .before) .loop .m) (omega arith) (or-left _ _ (sym (c .before .differ-at .ensures) ∙ c .if1 .taken))
 
 over-at-requires : tie.Need-over-at-requires Inv-loop μ-loop
-over-at-requires c κs = (c .before .before .before .before .before .before .pre, omega arith)
+over-at-requires c κs = (start (differed (c .before)) .pre, omega arith)
 
 returns-2 : tie.Need-returns-2 Inv-loop μ-loop
 unfolding noticeSpoils
 returns-2 c =
-    found _ (c .before .before .before .before .before .loop .m) (omega arith) (or-right _ _ (sym (c .before .over-at .ensures) ∙ c .if2 .taken))
+    found _ (differed (overed (c .before)) .loop .m) (omega arith) (or-right _ _ (sym (c .before .over-at .ensures) ∙ c .if2 .taken))
 
 add-m : tie.Need-add-m Inv-loop μ-loop
 add-m c = omega arith
@@ -45,7 +55,7 @@ loop-less c = omega arith
 loop-again : tie.Need-loop-again Inv-loop μ-loop
 unfolding noticeSpoils _or_
 loop-again c =
-    (omega arith, below-more _ _ (c .before .before .before .before .before .loop .inv .1) (rw (sym (c .before .before .before .differ-at .ensures) ∙ c .before .before .if1 .left, sym (c .before .over-at .ensures) ∙ c .if2 .left)))
+    (omega arith, below-more _ _ (differed (overed (c .before)) .loop .inv .1) (rw (sym (overed (c .before) .differ-at .ensures) ∙ c .before .before .if1 .left, sym (c .before .over-at .ensures) ∙ c .if2 .left)))
 
 returns-3 : tie.Need-returns-3 Inv-loop μ-loop
 returns-3 c = none-found _ (c .before .loop .m) (omega arith) (c .before .loop .inv .1)

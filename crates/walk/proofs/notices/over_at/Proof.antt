@@ -10,12 +10,15 @@ use borrow.Author.Needs.{needs}
 use Rattle.walk.proofs.notices.over_at.Statement.{statement}
 use Rattle.walk.proofs.notices.over_at.Tie as tie
 
+abbrev read : tie.After-notice-together → tie.Start
+read c = c .before .before .before
+
 notice-together-requires : tie.Need-notice-together-requires
 notice-together-requires c κs = search needs
 
 returns : tie.Need-returns
 returns c =
-    let s = c .before .before .before .before in
+    let s = read (c .before) in
     none-noticed (sheetIn (now (s .args .a))) (sheetIn (now (s .args .b))) (s .args .m) (omega arith)
 
 cast-result : tie.Need-cast-result
@@ -26,7 +29,7 @@ sets-of-requires c κs = search needs
 
 returns-2 : tie.Need-returns-2
 returns-2 c =
-    let s = c .before .before .before .before .before in
+    let s = read (c .before .before) in
     ap₂ ltb (c .before .before .notice-together .ensures) (c .sets-of .ensures)
     ∙ some-noticed (sheetIn (now (s .args .a))) (sheetIn (now (s .args .b))) (s .args .m) (λ e. c .before .if1 .left (c .before .before .notice-together .ensures ∙ e))
 

@@ -1,0 +1,2 @@
+pub mod VerdictPlaces
+pub mod VerdictStored

@@ -1,0 +1,2 @@
+pub mod JoinLaws
+pub mod ReadLaws
