@@ -1,4 +1,3 @@
-pub mod Loops
 pub mod RecordsBy
 pub mod SetsBy
 pub mod SheetBy

@@ -18,7 +18,7 @@ use Rattle.rules.specs.Numbers.{masterOf}
 use Rattle.rules.specs.Sheet.{noNotice, maxSets, maxRecords, masters, inRoster, soundNotice, isSheet}
 use Rattle.laws.specs.Says.{Says, is-lt, is-le, is-eq, itself, retold, _also_, _or-else_, _so_}
 use Rattle.examine.specs.SheetForm.{countAt, entryOk, bodyOk, above, setOk, setsOk, csnsIn, setsBy, Counted, setCount, noneNoticed, stateOk, headOk, noticeOk, sheetOk}
-use Rattle.examine.proofs.Loops.{stops, goes}
+use Rattle.laws.specs.Loops.{stops, goes}
 use Rattle.laws.specs.BytesHere.{octets}
 use Rattle.examine.proofs.SheetBy.{is-sheet-by}
 

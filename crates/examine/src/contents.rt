@@ -75,7 +75,7 @@ fn set_ok(b: &[u8], c: usize, at: usize, first: usize, prev: u64) -> bool
 }
 
 // One set more of the csn's master.
-fn count_set(by: &mut [u8; 16], csn: u64)
+pub fn count_set(by: &mut [u8; 16], csn: u64)
     requires { ⌜ getD (now by) (masterOf csn) 0 < 255 ⌝ }
     ensures { λ _. ⌜ now (by .exit) ≡ set (now (by .entry)) (masterOf csn) (getD (now (by .entry)) (masterOf csn) 0 + 1) ⌝ }
 {

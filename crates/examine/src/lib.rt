@@ -4,6 +4,7 @@ mod head;
 mod records;
 mod sheet;
 
+pub use contents::count_set;
 pub use records::are_records;
 pub use records::offered_count;
 pub use sheet::is_sheet;

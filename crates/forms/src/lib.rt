@@ -2,6 +2,7 @@
 mod verdict;
 
 pub use examine::are_records;
+pub use examine::count_set;
 pub use examine::is_sheet;
 pub use examine::offered_count;
 pub use registers::Draft;
@@ -19,7 +20,6 @@ pub use sheets::MASTERS;
 pub use sheets::Next;
 pub use sheets::ONE_ROOM;
 pub use sheets::SHEET_HEAD;
-pub use sheets::body;
 pub use sheets::contents_length;
 pub use sheets::epoch;
 pub use sheets::in_roster;

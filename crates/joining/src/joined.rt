@@ -2,7 +2,6 @@
 use crate::held::put_held;
 use forms::epoch;
 use forms::is_sheet;
-use forms::is_spoiled;
 use forms::length_with;
 use forms::put_no_notices;
 use forms::put_sheet_start;
@@ -10,8 +9,8 @@ use forms::roster;
 use rules::Answer;
 use rules::Refusal;
 use rules::SHEET_ROOM;
-use walk::count;
-use walk::spoils;
+use walk::Joint;
+use walk::joined_to;
 ghost use mathlib.Core.Path.{_≡_};
 ghost use mathlib.Core.Bool.{true};
 ghost use Prim.Native.Nat.{_≤_};
@@ -38,16 +37,10 @@ pub fn join_into<'a>(a: &'a [u8], b: &'a [u8], out: &mut [u8]) -> usize
     requires { ⌜ (isSheet (now a) ≡ true) × (isSheet (now b) ≡ true) × (sheetIn (now a) .epoch ≡ sheetIn (now b) .epoch) × (sheetIn (now a) .roster ≡ sheetIn (now b) .roster) × (sheetRoom ≤ length (now out)) ⌝ }
     ensures { λ r. ⌜ Written (joined (sheetIn (now (a .entry))) (sheetIn (now (b .entry)))) (now (out .entry)) r (now (out .exit)) ⌝ }
 {
-    if is_spoiled(a) {
+    let Joint::Sound(n) = joined_to(a, b) else {
         return put_spoiled(a, out);
-    }
-    if is_spoiled(b) {
-        return put_spoiled(a, out);
-    }
-    if spoils(a, b) {
-        return put_spoiled(a, out);
-    }
-    put_held(a, b, count(a, b), out)
+    };
+    put_held(a, b, n, out)
 }
 
 pub fn join<'a>(a: &'a [u8], b: &'a [u8], out: &mut [u8]) -> Answer

@@ -1,6 +1,7 @@
 pub mod Tests
 pub mod Says
 pub mod ListLaws
+pub mod Loops
 pub mod FormLaws
 pub mod Precedence
 pub mod SheetLaws

@@ -5,7 +5,6 @@ mod writing;
 
 pub use reading::MASTERS;
 pub use reading::Next;
-pub use reading::body;
 pub use reading::epoch;
 pub use reading::in_roster;
 pub use reading::is_spoiled;

@@ -117,7 +117,7 @@ pub fn record_key(b: &[u8], i: usize, j: usize) -> u32
 }
 
 // The records of set i, as the part of the sheet that they are.
-pub fn body(b: &[u8], i: usize) -> &[u8]
+fn body(b: &[u8], i: usize) -> &[u8]
     requires { ⌜ (isSheet (now b) ≡ true) × (i < length (sheetIn (now b) .sets)) ⌝ }
     ensures { λ r. ⌜ now r ≡ recordsBytes (setAt (sheetIn (now (b .entry))) i .records) ⌝ }
 {

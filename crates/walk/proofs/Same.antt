@@ -1,52 +1,72 @@
--- Equal bytes are equal records of a sound set, so equal sets can be told by their bytes.
-use mathlib.Core.Path.{_≡_, refl, sym, _∙_, ap}
-use mathlib.Core.Bool.{Bool, true, false, not, true≢false}
-use mathlib.Core.Option.{Option·some-injective}
+-- Two sets of one csn are equal in all fields, or clash. Their records are compared one after another: those that are left decide.
+use Prim.Native.Nat.{ℕ, _+_, _<_, _≤_}
+use mathlib.Core.Path.{_≡_, refl, sym, _∙_, ap₂}
+use mathlib.Core.Bool.{Bool, true, false, not, false≢true}
+use mathlib.Core.List.{List, [], _∷_}
+use native.Mathlib.Numerals.{add-one}
+use native.Mathlib.Omega.{arith}
 use borrow.Author.Tests.{eq-eqb, ne-eqb}
-use Rattle.words.specs.Words.{Bytes}
-use Rattle.rules.specs.Lists.{_and_, same}
-use Rattle.rules.specs.Sheet.{WriteSet, soundRecords, recordsBytes, readRecords}
-use Rattle.rules.specs.Gathering.{sameSet, clash}
-use Rattle.laws.specs.Tests.{not-true-false}
-use Rattle.laws.specs.FormLaws.{same→, same-refl}
-use Rattle.laws.specs.SheetLaws.{records-written}
-use Rattle.laws.specs.Distinct.{sameSet→}
-use Rattle.laws.specs.Merging.{sameSet-refl}
+use lib.ListN.{length, getD, drop, drop-of-length-le}
+use lib.Seq.{drop-cons}
+use Rattle.rules.specs.declared.row.Record.{Record}
+use Rattle.rules.specs.Lists.{_and_}
+use Rattle.rules.specs.Sheet.{WriteSet}
+use Rattle.rules.specs.Gathering.{sameRecord, sameRecords, sameSet, clash}
+use Rattle.laws.specs.Tests.{not-true-false, right}
+use Rattle.laws.specs.Loops.{stops, goes}
+use Rattle.sheets.specs.SheetReadings.{noRecord}
 
--- lists that differ are not the same
-pub not-same : (s t : Bytes) → (s ≡ t → ⊥) → false ≡ same s t
-not-same s t h = sym (not-true-false (λ e. h (same→ s t e)))
+-- ---- records
 
-pub are-same : (s t : Bytes) → s ≡ t → true ≡ same s t
-are-same s t e = sym (ap (same s) (sym e) ∙ same-refl s)
+-- equal lists are equally long
+same-long : (xs ys : List Record) → sameRecords xs ys ≡ true → length xs ≡ length ys
+unfolding sameRecords
+same-long [] [] e = refl
+same-long [] (y ∷ ys) e = absurd (false≢true e)
+same-long (x ∷ xs) [] e = absurd (false≢true e)
+same-long (x ∷ xs) (y ∷ ys) e = omega (arith, same-long xs ys (right _ _ e))
 
--- one encoding
-same-records : (v w : WriteSet) → soundRecords v.records ≡ true → soundRecords w.records ≡ true → recordsBytes v.records ≡ recordsBytes w.records → v.records ≡ w.records
-same-records v w p q e = Option·some-injective _ _ (sym (records-written v.records p) ∙ ap readRecords e ∙ records-written w.records q)
+-- what is left of two lists from number k on is equal
+abbrev pub rest : List Record → List Record → ℕ → Bool
+rest xs ys k = sameRecords (drop k xs) (drop k ys)
 
-module _ (v w : WriteSet) where
+module _ (xs ys : List Record) where
+  pub other-length : (length xs ≡ length ys → ⊥) → false ≡ sameRecords xs ys
+  other-length h = sym (not-true-false (λ e. h (same-long xs ys e)))
+
+  module _ (k : ℕ) (p : sameRecords xs ys ≡ rest xs ys k) where
+    module _ (h : k < length xs) (l : k < length ys) where
+      -- the next records decide with what is behind them
+      next : rest xs ys k ≡ sameRecord (getD xs k noRecord) (getD ys k noRecord) and rest xs ys (k + 1)
+      unfolding sameRecords
+      next = rw (drop-cons xs k noRecord h, drop-cons ys k noRecord l, add-one k)
+
+      pub other-record : sameRecord (getD xs k noRecord) (getD ys k noRecord) ≡ false → false ≡ sameRecords xs ys
+      other-record = stops _ _ p next
+
+      pub same-record : sameRecord (getD xs k noRecord) (getD ys k noRecord) ≡ true → sameRecords xs ys ≡ rest xs ys (k + 1)
+      same-record = goes _ _ p next
+
+    pub ends : length xs ≤ k → length ys ≤ k → true ≡ sameRecords xs ys
+    unfolding sameRecords
+    ends h l = sym (p ∙ ap₂ sameRecords (drop-of-length-le xs h) (drop-of-length-le ys l))
+
+-- ---- sets
+
+module _ (v w : WriteSet) (c : v.csn ≡ w.csn) where
+  pub clash-by : not (sameSet v w) ≡ clash v w
+  unfolding clash _and_
+  clash-by = rw (eq-eqb v.csn w.csn c)
+
   pub other-sen : (v.sen ≡ w.sen → ⊥) → false ≡ sameSet v w
-  other-sen h = sym (not-true-false (λ e. h (ap (λ (x : WriteSet). x.sen) (sameSet→ v w e))))
+  unfolding sameSet _and_
+  other-sen h = rw (eq-eqb v.csn w.csn c, ne-eqb v.sen w.sen h)
 
-  pub by-bytes : soundRecords v.records ≡ true → soundRecords w.records ≡ true → v.csn ≡ w.csn → v.sen ≡ w.sen
-      → same (recordsBytes v.records) (recordsBytes w.records) ≡ sameSet v w
-  by-bytes p q c s = go (same (recordsBytes v.records) (recordsBytes w.records)) refl
-    where
-      go : (t : Bool) → same (recordsBytes v.records) (recordsBytes w.records) ≡ t → t ≡ sameSet v w
-      go true e =
-          let r = same-records v w p q (same→ _ _ e) in
-          let x : v ≡ w = λ i. record { csn = c i; sen = s i; records = r i } in
-          sym (ap (sameSet v) (sym x) ∙ sameSet-refl v)
-      go false e = sym (not-true-false (λ h. differs (ap (λ (x : WriteSet). recordsBytes x.records) (sameSet→ v w h))))
-        where
-          differs : recordsBytes v.records ≡ recordsBytes w.records → ⊥
-          differs d = true≢false (sym (ap (same (recordsBytes v.records)) (sym d) ∙ same-refl (recordsBytes v.records)) ∙ e)
+  pub by-records : v.sen ≡ w.sen → sameRecords v.records w.records ≡ sameSet v w
+  unfolding sameSet _and_
+  by-records s = rw (eq-eqb v.csn w.csn c, eq-eqb v.sen w.sen s)
 
-  -- a clash is one csn and not the same set
-  pub no-clash : (v.csn ≡ w.csn → ⊥) → false ≡ clash v w
-  unfolding clash _and_
-  no-clash h = rw (ne-eqb v.csn w.csn h)
-
-  pub clash-by : v.csn ≡ w.csn → not (sameSet v w) ≡ clash v w
-  unfolding clash _and_
-  clash-by e = rw (eq-eqb v.csn w.csn e)
+-- sets of different csns do not clash
+pub no-clash : (v w : WriteSet) → (v.csn ≡ w.csn → ⊥) → false ≡ clash v w
+unfolding clash _and_
+no-clash v w h = rw (ne-eqb v.csn w.csn h)

@@ -1,22 +1,19 @@
 -- What a walk over two sheets knows turn by turn: where it starts, what one turn passes, and that nothing is left at its end.
-use Prim.Native.Nat.{ℕ, _+_, _*_, _≤_}
+use Prim.Native.Nat.{_+_, _*_, _≤_}
 use mathlib.Core.Path.{_≡_, refl, sym, _∙_, ap}
 use mathlib.Core.Bool.{Bool, true, false}
-use mathlib.Core.List.{List, [], _∷_, _++_}
+use mathlib.Core.List.{_++_}
 use native.Mathlib.Omega.{arith}
-use native.Mathlib.Decide.{ℕ-discrete}
-use borrow.Author.Tests.{ltb-true, ltb-false, eq-eqb, ne-eqb}
+use borrow.Author.Tests.{ltb-true, ltb-false}
 use lib.ListN.{length, length-append}
 use lib.Dec.{ltb}
 use Rattle.words.specs.Words.{Bytes}
-use Rattle.rules.specs.Lists.{keep, count}
-use Rattle.rules.specs.Numbers.{masterOf}
-use Rattle.rules.specs.Sheet.{WriteSet, Sheet, maxSets, sheetIn, setsOf}
+use Rattle.rules.specs.Sheet.{Sheet, maxSets, sheetIn}
 use Rattle.laws.specs.Merging.{distinct-le}
 use Rattle.laws.specs.Joining.{together}
 use Rattle.sheets.specs.SheetSizes.{few-sets}
 use Rattle.walk.specs.declared.place.Place.{Place}
-use Rattle.walk.specs.Walk.{unpassed, behind, nextAt, TwoSheets, At, Ahead, Advanced}
+use Rattle.walk.specs.Walk.{unpassed, behind, TwoSheets, At, Ahead, Advanced}
 use Rattle.walk.specs.Walks.{start}
 
 pub start-unpassed : (a b : Sheet) → a.sets ++ b.sets ≡ unpassed a b start
@@ -42,32 +39,7 @@ ahead a b p t k e h = record { at = k; some = ltb-true 0 _ (sym e ∙ h) }
 pub spent : (a b : Bytes) (p : Place) (t : Bool) → t ≡ ltb 0 (length (behind (sheetIn a) (sheetIn b) p)) → t ≡ false → length (behind (sheetIn a) (sheetIn b) p) ≤ 0
 spent a b p t e h = ltb-false 0 _ (sym e ∙ h)
 
--- the sets of one master
-
-sets-yes : (m : ℕ) (w : WriteSet) (ws : List WriteSet) → masterOf w.csn ≡ m → setsOf m (w ∷ ws) ≡ 1 + setsOf m ws
-unfolding setsOf count keep
-sets-yes m w ws e = rw (eq-eqb (masterOf w.csn) m e) (omega arith)
-
-sets-no : (m : ℕ) (w : WriteSet) (ws : List WriteSet) → (masterOf w.csn ≡ m → ⊥) → setsOf m (w ∷ ws) ≡ setsOf m ws
-unfolding setsOf count keep
-sets-no m w ws h = rw (ne-eqb (masterOf w.csn) m h)
-
-pub sets-le : (m : ℕ) (ws : List WriteSet) → setsOf m ws ≤ length ws
-unfolding setsOf count keep
-sets-le m [] = omega arith
-sets-le m (w ∷ ws) =
-    elim (ℕ-discrete (masterOf w.csn) m) [
-      | yes e ↦ rw (sets-yes m w ws e) (omega (arith, sets-le m ws))
-      | no h ↦ rw (sets-no m w ws h) (omega (arith, sets-le m ws))
-    ]
-
 -- one turn
 module _ {a b : Bytes} {p q : Place} (n : Advanced a b p q) where
   pub shorter : length (behind (sheetIn a) (sheetIn b) p) ≡ 1 + length (behind (sheetIn a) (sheetIn b) q)
   shorter = ap length (n .leaves) ∙ omega arith
-
-  pub counted : (m : ℕ) → masterOf (nextAt (sheetIn a) (sheetIn b) p .csn) ≡ m → setsOf m (behind (sheetIn a) (sheetIn b) p) ≡ 1 + setsOf m (behind (sheetIn a) (sheetIn b) q)
-  counted m e = ap (setsOf m) (n .leaves) ∙ sets-yes m (nextAt (sheetIn a) (sheetIn b) p) (behind (sheetIn a) (sheetIn b) q) e
-
-  pub uncounted : (m : ℕ) → (masterOf (nextAt (sheetIn a) (sheetIn b) p .csn) ≡ m → ⊥) → setsOf m (behind (sheetIn a) (sheetIn b) p) ≡ setsOf m (behind (sheetIn a) (sheetIn b) q)
-  uncounted m h = ap (setsOf m) (n .leaves) ∙ sets-no m (nextAt (sheetIn a) (sheetIn b) p) (behind (sheetIn a) (sheetIn b) q) h

@@ -6,15 +6,17 @@ use mathlib.Core.List.{List, _∷_, _++_}
 use lib.ListN.{length, getD, drop}
 use Rattle.words.specs.Words.{Bytes}
 use Rattle.rules.specs.Lists.{_or_}
-use Rattle.rules.specs.Sheet.{WriteSet, Sheet, isSheet, sheetIn}
-use Rattle.rules.specs.Gathering.{distinct, clash, someTwo}
-use Rattle.laws.specs.Joining.{noticesDiffer, overAt}
+use Rattle.rules.specs.Sheet.{WriteSet, Sheet, maxSets, setsOf, isSheet, sheetIn}
+use Rattle.rules.specs.Gathering.{distinct, clash, someTwo, spoiledSheet, joined}
+use Rattle.laws.specs.Joining.{noticesDiffer, together, overAt, joinHeld}
 use Rattle.sheets.specs.declared.reading.Next.{Next}
 use Rattle.sheets.specs.declared.reading.Next.the-variants as next
-use Rattle.sheets.specs.SheetReadings.{noSet, setAt}
+use Rattle.sheets.specs.SheetReadings.{masterCount, noSet, setAt}
 use Rattle.sheets.specs.Taking.{taken, Chosen}
 use Rattle.walk.specs.declared.next.Entry.{Entry}
 use Rattle.walk.specs.declared.place.Place.{Place}
+use Rattle.walk.specs.declared.spoil.Joint.{Joint}
+use Rattle.walk.specs.declared.spoil.Joint.the-variants as joint
 
 -- the sets of both sheets behind a place, as they stand
 unfoldable pub unpassed : Sheet → Sheet → Place → List WriteSet
@@ -31,6 +33,15 @@ nextAt a b p = getD (behind a b p) 0 noSet
 -- master m has two different notices, or more sets than its notice
 unfoldable pub noticeSpoils : Sheet → Sheet → ℕ → Bool
 noticeSpoils a b m = noticesDiffer a b m or overAt a b m
+
+-- sixteen counters say how many distinct sets of both sheets each master has
+abbrev pub Tallied : Sheet → Sheet → List ℕ → Type 0
+Tallied a b by = (m : ℕ) → m < masterCount → getD by m 0 ≡ setsOf m (together a b)
+
+-- what two sheets are joined to: the spoiled sheet, or the one that holds what both do, of so many sets
+abbrev pub JoinsTo : Sheet → Sheet → Joint → Type 0
+JoinsTo a b joint.Spoiled = joined a b ≡ spoiledSheet a.epoch a.roster
+JoinsTo a b (joint.Sound n) = (joined a b ≡ joinHeld a b) × (n ≡ length (together a b)) × (n ≤ maxSets)
 
 -- two examined sheets
 pub record TwoSheets (a b : Bytes) : Type 0 where

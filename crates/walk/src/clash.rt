@@ -3,31 +3,48 @@ use crate::next::next_from;
 use crate::place::Place;
 use crate::place::advance;
 use forms::Next;
-use forms::body;
+use forms::record;
+use forms::record_count;
 use forms::set_count;
 use forms::set_sen;
+use rules::Record;
 ghost use mathlib.Core.Path.{_≡_};
 ghost use mathlib.Core.List.{_++_};
 ghost use Prim.Native.Nat.{_<_};
 ghost use lib.ListN.{length};
-ghost use Rattle.rules.specs.Lists.{same};
 ghost use Rattle.rules.specs.Sheet.{sheetIn};
-ghost use Rattle.rules.specs.Gathering.{clash, someTwo};
+ghost use Rattle.rules.specs.Gathering.{sameRecord, sameRecords, clash, someTwo};
 ghost use Rattle.sheets.specs.SheetReadings.{setAt};
 ghost use Rattle.walk.specs.Walk.{TwoSheets, BothLeft, At, Decided};
 
-fn same_bytes(s: &[u8], t: &[u8]) -> bool
-    ensures { λ r. ⌜ r ≡ same (now (s .entry)) (now (t .entry)) ⌝ }
+// Two records are equal in all fields.
+fn same_record(x: Record, y: Record) -> bool
+    ensures { λ r. ⌜ r ≡ sameRecord x y ⌝ }
 {
-    if s.len() != t.len() {
+    if x.kind != y.kind {
         return false;
     }
-    let mut i = 0;
-    while i < s.len() {
-        if s[i] != t[i] {
+    if x.key != y.key {
+        return false;
+    }
+    x.value == y.value
+}
+
+// Two sets have equal records.
+fn same_records(a: &[u8], i: usize, b: &[u8], j: usize) -> bool
+    requires { ⌜ (TwoSheets (now a) (now b)) × (i < length (sheetIn (now a) .sets)) × (j < length (sheetIn (now b) .sets)) ⌝ }
+    ensures { λ r. ⌜ r ≡ sameRecords (setAt (sheetIn (now (a .entry))) i .records) (setAt (sheetIn (now (b .entry))) j .records) ⌝ }
+{
+    let n = record_count(a, i);
+    if n != record_count(b, j) {
+        return false;
+    }
+    let mut k: usize = 0;
+    while k < n {
+        if !same_record(record(a, i, k), record(b, j, k)) {
             return false;
         }
-        i += 1;
+        k += 1;
     }
     true
 }
@@ -40,7 +57,7 @@ fn differ(a: &[u8], i: usize, b: &[u8], j: usize) -> bool
     if set_sen(a, i) != set_sen(b, j) {
         return true;
     }
-    !same_bytes(body(a, i), body(b, j))
+    !same_records(a, i, b, j)
 }
 
 // The first sets behind the place, one of each sheet, clash: no two of different csns do.

@@ -1,22 +1,38 @@
-// The four reasons for which two sheets spoil the sheet that they are joined to.
+// What spoils the sheet that two sheets are joined to: that one of them is spoiled, or one of the four reasons.
 use crate::clash::clashes;
-use crate::counts::count;
 use crate::notices::notices_spoil;
+use crate::tally::tally;
+use forms::is_spoiled;
 use rules::MAX_SETS;
-ghost use mathlib.Core.Path.{_≡_};
 ghost use Rattle.rules.specs.Sheet.{sheetIn};
-ghost use Rattle.laws.specs.Joining.{joinSpoils};
-ghost use Rattle.walk.specs.Walk.{TwoSheets};
+ghost use Rattle.walk.specs.Walk.{TwoSheets, JoinsTo};
 
-pub fn spoils(a: &[u8], b: &[u8]) -> bool
+// What two sheets are joined to: a spoiled sheet, or a sound one of so many sets.
+pub enum Joint {
+    Spoiled,
+    Sound(usize),
+}
+
+pub fn joined_to(a: &[u8], b: &[u8]) -> Joint
     requires { ⌜ TwoSheets (now a) (now b) ⌝ }
-    ensures { λ r. ⌜ r ≡ joinSpoils (sheetIn (now (a .entry))) (sheetIn (now (b .entry))) ⌝ }
+    ensures { λ r. ⌜ JoinsTo (sheetIn (now (a .entry))) (sheetIn (now (b .entry))) r ⌝ }
 {
+    if is_spoiled(a) {
+        return Joint::Spoiled;
+    }
+    if is_spoiled(b) {
+        return Joint::Spoiled;
+    }
     if clashes(a, b) {
-        return true;
+        return Joint::Spoiled;
     }
-    if MAX_SETS < count(a, b) {
-        return true;
+    let mut by = [0u8; 16];
+    let n = tally(a, b, &mut by);
+    if MAX_SETS < n {
+        return Joint::Spoiled;
     }
-    notices_spoil(a, b)
+    if notices_spoil(a, b, &by) {
+        return Joint::Spoiled;
+    }
+    Joint::Sound(n)
 }

@@ -9,7 +9,7 @@ use Rattle.words.specs.Words.{part}
 use Rattle.rules.specs.Lists.{all}
 use Rattle.rules.specs.Sheet.{noNotice}
 use Rattle.examine.specs.SheetForm.{noneNoticed}
-use Rattle.examine.proofs.Loops.{stops, goes}
+use Rattle.laws.specs.Loops.{stops, goes}
 use Rattle.examine.proofs.SheetTests.{notices-more, notices-none}
 use Rattle.examine.proofs.head.no_notices.Statement.{statement}
 use Rattle.examine.proofs.head.no_notices.Tie as tie

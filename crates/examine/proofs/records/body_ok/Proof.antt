@@ -8,7 +8,7 @@ use lib.ListN.{length}
 use Rattle.laws.specs.Says.{said-no, said-yes}
 use Rattle.examine.specs.SheetForm.{bodyOk}
 use Rattle.examine.proofs.RecordsBy.{body-more, body-none}
-use Rattle.examine.proofs.Loops.{stops, goes}
+use Rattle.laws.specs.Loops.{stops, goes}
 use Rattle.examine.proofs.records.body_ok.Statement.{statement}
 use Rattle.examine.proofs.records.body_ok.Tie as tie
 

@@ -1,26 +1,31 @@
--- Each reason is decided before anything is written.
-use Rattle.joining.proofs.JoinLaws.{first-spoiled, second-spoiled, both-spoil, none-spoils, few-together}
-use Rattle.rules.specs.Sheet.{sheetIn}
+-- What the sheet is to be is decided before anything is written.
 use denote.Ref.{now}
-use native.Mathlib.Omega.{arith}
-use mathlib.Core.Path.{sym, _∙_}
 use borrow.Author.Needs.{needs}
+use Rattle.rules.specs.Sheet.{sheetIn}
+use Rattle.walk.specs.declared.spoil.Joint.the-variants as joint
+use Rattle.walk.specs.Walk.{JoinsTo}
+use Rattle.joining.proofs.JoinLaws.{same-sheet, told}
 use Rattle.joining.proofs.joined.join_into.Statement.{statement}
 use Rattle.joining.proofs.joined.join_into.Tie as tie
 
--- the stations, from test to test
-
-abbrev start : tie.After-is-spoiled → tie.Start
+abbrev start : tie.After-joined-to → tie.Start
 start c = c .before .before .before .before
 
-abbrev second : tie.After-is-spoiled2 → tie.After-is-spoiled
-second c = c .before .before
+abbrev decided : tie.After-known-told → tie.After-joined-to
+decided c = c .before .before .before
 
-abbrev third : tie.After-spoils → tie.After-is-spoiled2
-third c = c .before .before
+-- the sheet holds what both do, and has n sets
+sound : (c : tie.After-known-told) → JoinsTo (sheetIn (now (start (decided c) .args .a))) (sheetIn (now (start (decided c) .args .b))) (joint.Sound (c .before .n .given .0 .0))
+sound c = told _ _ (c .before .n .given .1) (decided c .joined-to .ensures)
 
-is-spoiled-requires : tie.Need-is-spoiled-requires
-is-spoiled-requires c κs = search needs
+joined-to-requires : tie.Need-joined-to-requires
+joined-to-requires c κs = search needs
+
+enum-known-n : tie.Need-enum-known-n
+enum-known-n c = search needs
+
+enum-told : tie.Need-enum-told
+enum-told c = search needs
 
 put-spoiled-requires : tie.Need-put-spoiled-requires
 put-spoiled-requires c κs = search needs
@@ -32,85 +37,29 @@ returns : tie.Need-returns
 returns c =
     let w = c .before .before in
     let t = w .before .before in
-    let s = start (t .before) in
-    first-spoiled _ _ (s .pre .0) (s .pre .1) (w .put-spoiled .ensures) (sym (t .before .is-spoiled .ensures) ∙ t .if1 .taken)
+    same-sheet _ _ (told _ _ (t .enum-told .given .1) (t .before .before .joined-to .ensures)) (w .put-spoiled .ensures)
 
-is-spoiled-requires-2 : tie.Need-is-spoiled-requires-2
-is-spoiled-requires-2 c κs = search needs
-
-put-spoiled-requires-2 : tie.Need-put-spoiled-requires-2
-put-spoiled-requires-2 c κs = search needs
+put-held-requires : tie.Need-put-held-requires
+put-held-requires c κs =
+    let s = start (decided (c .before)) in
+    record { sheets = record { one = s .pre .0; two = s .pre .1 }; count = sound (c .before) .1; few = sound (c .before) .2; room = s .pre .4 }
 
 same-length-2 : tie.Need-same-length-2
 same-length-2 c = search needs
 
 returns-2 : tie.Need-returns-2
-returns-2 c =
-    let w = c .before .before in
-    let t = w .before .before in
-    let s = start (second (t .before)) in
-    second-spoiled _ _ (s .pre .0) (s .pre .1) (w .put-spoiled2 .ensures) (sym (t .before .is-spoiled2 .ensures) ∙ t .if2 .taken)
-
-spoils-requires : tie.Need-spoils-requires
-spoils-requires c κs = search needs
-
-put-spoiled-requires-3 : tie.Need-put-spoiled-requires-3
-put-spoiled-requires-3 c κs = search needs
-
-same-length-3 : tie.Need-same-length-3
-same-length-3 c = search needs
-
-returns-3 : tie.Need-returns-3
-returns-3 c =
-    let w = c .before .before in
-    let t = w .before .before in
-    let s = start (second (third (t .before))) in
-    both-spoil _ _ (s .pre .0) (s .pre .1) (w .put-spoiled3 .ensures) (sym (t .before .spoils .ensures) ∙ t .if3 .taken)
-
-count-requires : tie.Need-count-requires
-count-requires c κs = search needs
-
-put-held-requires : tie.Need-put-held-requires
-put-held-requires c κs =
-    let t = c .before .before in
-    let s = start (second (third (t .before))) in
-    record {
-      sheets = record { one = s .pre .0; two = s .pre .1 };
-      count = c .before .count .ensures;
-      few = omega (arith, few-together (sheetIn (now (s .args .a))) (sheetIn (now (s .args .b))) (sym (t .before .spoils .ensures) ∙ t .if3 .left));
-      room = s .pre .4;
-    }
-
-same-length-4 : tie.Need-same-length-4
-same-length-4 c = search needs
-
-returns-4 : tie.Need-returns-4
-returns-4 c =
-    let w = c .before .before in
-    let t = w .before .before .before in
-    let x = third (t .before) in
-    let y = second x in
-    let s = start y in
-    none-spoils _ _ (s .pre .0) (s .pre .1) (w .put-held .ensures)
-    (sym (y .is-spoiled .ensures) ∙ x .before .if1 .left) (sym (x .is-spoiled2 .ensures) ∙ t .before .before .if2 .left) (sym (t .before .spoils .ensures) ∙ t .if3 .left)
+returns-2 c = let w = c .before .before in same-sheet _ _ (sound (w .before .before) .0) (w .put-held .ensures)
 
 pub join-into-spec : {M : Type 1} → statement M
 join-into-spec =
     tie.close
     (tie.spec
-    is-spoiled-requires
+    joined-to-requires
+    enum-known-n
+    enum-told
     put-spoiled-requires
     same-length
     returns
-    is-spoiled-requires-2
-    put-spoiled-requires-2
-    same-length-2
-    returns-2
-    spoils-requires
-    put-spoiled-requires-3
-    same-length-3
-    returns-3
-    count-requires
     put-held-requires
-    same-length-4
-    returns-4)
+    same-length-2
+    returns-2)
