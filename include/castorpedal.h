@@ -12,6 +12,8 @@
  *   4 epoch 0, or another epoch      9 an output buffer is too short
  *   5 roster 0, another roster,     10 read check: mode, key, number of entries or lsn
  *     or the master is not in it
+ *
+ * docs/FORMS.md has the layouts and what to do about each refusal.
  */
 #ifndef CASTORPEDAL_H
 #define CASTORPEDAL_H

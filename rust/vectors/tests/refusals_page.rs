@@ -1,4 +1,4 @@
-//! The refusals in docs/FORMS.md: numbered in order, and given by the operations that give them in the cases.
+//! The refusals in docs/FORMS.md: numbered in order, given by the operations that give them in the cases, and found by links.
 
 mod page;
 
@@ -55,4 +55,20 @@ fn operations_give_these_refusals() {
     let table: BTreeSet<_> = rows(text, 5).iter().flat_map(|row| row[1].split(", ").map(|name| (name, number(row[0])))).collect();
     matrix.retain(|(name, _)| *name != "the closing program");
     assert_eq!(table, matrix);
+}
+
+/// Links to the page, from others and within it, lead to an anchor or a heading.
+#[test]
+fn links_lead_somewhere() {
+    let page = page();
+    let headings = page.lines().filter_map(|line| line.strip_prefix("## ")).map(|h| h.to_lowercase().replace(' ', "-"));
+    let anchors: BTreeSet<String> = headings.chain((1..=10).map(|n| format!("refusal-{n}"))).collect();
+    for (name, sign) in [("README.md", "(docs/FORMS.md#"), ("docs/LESSONS.md", "(FORMS.md#"), ("docs/FORMS.md", "(#")] {
+        let other = read(name);
+        let links: Vec<&str> = other.split(sign).skip(1).map(|rest| rest.split(')').next().unwrap()).collect();
+        assert!(!links.is_empty(), "{name} does not link docs/FORMS.md");
+        for link in links {
+            assert!(anchors.contains(link), "{name} links {link}");
+        }
+    }
 }
