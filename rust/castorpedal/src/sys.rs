@@ -44,3 +44,8 @@ extern "C" {
         register: *const u8, register_len: usize, mode: u8, lsn: u32, reads: *const Read, reads_len: usize,
     ) -> Checked;
 }
+
+/// A number that document 01 does not have is an answer of another library than this one.
+pub fn unknown(what: &str, number: u32) -> ! {
+    panic!("the library answered {what} {number}: library and wrapper do not belong together")
+}
