@@ -1,43 +1,48 @@
 //! The proved operations, for Rust: safe on every input.
 //!
-//! The functions take slices of any length and answer a length or a [`Refusal`]; a refusal leaves every lent byte as it was, and a
-//! success leaves the bytes after the length that it names. Rust's own rules see to it that a buffer lent for writing overlaps no other.
+//! A [`Sheet`] gathers an epoch's write sets, and a [`Register`] closes the epoch with it. Both own their bytes and are always well-formed.
+//! An operation that cannot be done answers a [`Refusal`] and changes nothing.
 //!
 //! ```
-//! use castorpedal::*;
+//! use castorpedal::{record, Refusal, Register, Row, Sheet, Verdict};
 //!
 //! // The clerk's example A: two masters change station 10, and the smaller csn wins.
-//! let register = [
-//!     0, 0, 0, 0, 1, 0, 0, 0, // snapshot 0, one row:
-//!     10, 0, 0, 0, 1, 0, 0, 0, 0, 0, 0, 0, 0, 0, 0, 0, 0, 0, 0, 0, 0, 0, 0, 0, 0, 0, 0, 0,
-//! ];
-//! let change = |value: u8| [1, 0, 0, 0, 10, 0, 0, 0, value, 0, 0, 0, 0, 0, 0, 0];
-//! let mut sheets = [[0; SHEET_ROOM], [0; SHEET_ROOM]];
-//! let mut n = open(1, 40, &mut sheets[0])?;
-//! let mut step = |act: &dyn Fn(&[u8], &mut [u8]) -> Result<usize, Refusal>| {
-//!     let [now, next] = &mut sheets;
-//!     n = act(&now[..n], next)?;
-//!     sheets.swap(0, 1);
-//!     Ok(n)
-//! };
-//! step(&|sheet, out| put(sheet, 1, 1, 3, &change(6), out))?;
-//! step(&|sheet, out| put(sheet, 1, 1, 5, &change(2), out))?;
-//! step(&|sheet, out| notice(sheet, 1, 3, 1, out))?;
-//! let n = step(&|sheet, out| notice(sheet, 1, 5, 1, out))?;
-//! let (mut next, mut verdicts) = ([0; REGISTER_ROOM], [0; VERDICT_ROOM]);
-//! let closed = close(&register, &sheets[0][..n], &mut next, &mut verdicts)?;
-//! assert_eq!(next[12], 6); // the row's new value
-//! assert_eq!(verdicts[..closed.verdicts], [1, 0, 0, 0, 0, 2, 10, 0, 0, 0]); // commit; lost at 10
+//! let register = Register::drawn_up(&[(10, 1), (20, 0)])?;
+//! let mut sheet = Sheet::open(1, 40)?; // epoch 1; bits 3 and 5: masters 3 and 5
+//! sheet.put(1, 1, 3, &record::change(10, 6))?; // epoch 1, sen 1, csn 3
+//! sheet.put(1, 1, 5, &record::change(10, 2))?;
+//! sheet.notice(1, 3, 1)?; // epoch 1: master 3 sent one set
+//! sheet.notice(1, 5, 1)?;
+//!
+//! let (next, verdicts) = register.close(&sheet)?;
+//! assert_eq!(verdicts, [Verdict::Commit, Verdict::Lost(10)]);
+//! assert_eq!(next.snapshot(), 1);
+//! assert_eq!(next.rows().next(), Some(Row { key: 10, value: 6, cen: 1, sen: 1, csn: 3 }));
+//!
+//! // The epoch is closed: the same sheet on the next register is refused.
+//! assert_eq!(next.close(&sheet), Err(Refusal::WrongEpoch));
 //! # Ok::<(), Refusal>(())
 //! ```
+//!
+//! [`open`], [`put`], [`notice`], [`join`], [`close`], [`check`] and [`check_reads`] are the same operations on slices of any length, for
+//! callers with buffers of their own. They answer the length that they wrote; the bytes after it stay, and a refusal leaves every lent byte
+//! as it was.
 #![deny(missing_docs, unsafe_code)]
 
 #[allow(unsafe_code)]
 mod calls;
 mod reads;
+pub mod record;
 mod refusal;
+mod register;
+mod sheet;
 mod sys;
+mod verdict;
+mod words;
 
 pub use calls::{check, check_reads, close, join, notice, open, put, Closed, REGISTER_ROOM, SHEET_ROOM, VERDICT_ROOM};
 pub use reads::{Checked, Read, Reason};
 pub use refusal::Refusal;
+pub use register::{Register, Row};
+pub use sheet::Sheet;
+pub use verdict::Verdict;
