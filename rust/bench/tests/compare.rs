@@ -159,15 +159,17 @@ fn crowded_epochs() {
     }
 }
 
-/// Every bit of a sheet and of a register turned, and every cut.
+/// Every bit of a sheet and of a register turned, and every cut. Some keys and csns next to one another differ in one bit, so that a turn
+/// makes them equal.
 #[test]
 fn every_byte_matters() {
     let mut d = Desk::new(3);
-    let w = World { epoch: 3, roster: 40, masters: vec![3, 5], keys: (1..9).map(|k| k * 7).collect(), times: 3 };
-    let register = register(&mut d.rng, &w);
+    let rows = [1, 3, 7, 15].map(|k| (k, Row { value: 5, mark: Mark { cen: 2, sen: 1, csn: 40 } })).into();
+    let register = Register { snapshot: 2, rows }.bytes();
+    let w = World { epoch: 3, roster: 40, masters: vec![3, 5], keys: vec![], times: 0 };
     let mut sheet = paper::open(3, 40, SHEET_ROOM).unwrap();
-    for (sen, csn, kind, key) in [(1, 3, 1, 7), (2, 5, 3, 7), (3, 19, 2, 8)] {
-        sheet = paper::put(&sheet, 3, sen, csn, &[record(kind, key, 0), record(1, 49, 4)].concat(), SHEET_ROOM).unwrap();
+    for (sen, csn, kind, key) in [(1, 3, 1, 1), (2, 19, 3, 1), (3, 21, 2, 2)] {
+        sheet = paper::put(&sheet, 3, sen, csn, &[record(kind, key, 0), record(1, 3, 4)].concat(), SHEET_ROOM).unwrap();
     }
     let sheet = noticed(sheet, &w);
     let turned = |bytes: &[u8], at: usize, bit: u8| {
