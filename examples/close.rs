@@ -5,8 +5,20 @@
 //!     cd rust && cargo run --example close
 
 use castorpedal::{record, Checked, Read, Refusal, Register, Row, Sheet};
+use std::process::ExitCode;
 
-fn main() -> Result<(), Refusal> {
+fn main() -> ExitCode {
+    match close_example_a() {
+        Ok(()) => ExitCode::SUCCESS,
+        Err(refusal) => {
+            println!("refused {}", refusal.number());
+            eprintln!("{refusal}");
+            ExitCode::FAILURE
+        }
+    }
+}
+
+fn close_example_a() -> Result<(), Refusal> {
     let register = Register::drawn_up(&[(10, 1), (20, 0)])?; // snapshot 0, fresh marks
     let mut sheet = Sheet::open(1, 40)?; // epoch 1, masters 3 and 5
     sheet.put(1, 1, 3, &record::change(10, 6))?; // epoch, sen, csn

@@ -1,9 +1,10 @@
 //! The lines that are measured: the inputs of each, and the call as the library, `twin`, `rival` and `paper` make it.
 
-use crate::inputs::{self, Input, Rng, EPOCH};
+use crate::inputs::{self, Input, EPOCH};
 use crate::{rival, twin};
 use castorpedal as lib;
 use std::hint::black_box;
+use worlds::Rng;
 
 /// How many inputs a line has.
 pub const INPUTS: usize = 16;

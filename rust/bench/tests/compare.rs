@@ -1,13 +1,10 @@
 //! `twin` and `rival` against the paper, on seeded cases: the answer and every lent byte of more than 20,000 calls.
 
-mod worlds;
-
-use bench::inputs::Rng;
 use bench::lines::{assert_alike, Buffers, LINES};
 use bench::{rival, twin};
 use paper::{Mark, Register, Row, REGISTER_ROOM, SHEET_ROOM, VERDICT_ROOM};
 use std::collections::{BTreeMap, BTreeSet};
-use worlds::{damaged, noticed, offer, record, register, sets_of, world, World};
+use worlds::{damaged, eight, noticed, offer, record, register, sets_of, world, Rng, World};
 
 /// Makes the calls, each with lent bytes full of noise, and keeps what was seen: the refusals, and 0 for a success.
 struct Desk {
@@ -202,11 +199,7 @@ fn at_the_limits() {
     for (sets, delete, refused) in [(64, true, None), (64, false, Some(8)), (65, true, Some(6))] {
         let mut sheet = paper::open(1, 0xffff, SHEET_ROOM).unwrap();
         for i in 0..sets {
-            let set: Vec<u8> = (0..8).flat_map(|j| match (i, j) {
-                (63, 7) => record(2, 5000, 1),
-                (62, 7) if delete => record(3, 1024, 0),
-                _ => record(1, 1 + (i * 8 + j) * 2, 1),
-            }).collect();
+            let set = eight(i, delete);
             let before = sheet;
             d.put(&before, 1, 1, u64::from(i * 16 + i % 16), &set);
             sheet = paper::put(&before, 1, 1, u64::from(i * 16 + i % 16), &set, SHEET_ROOM).unwrap();

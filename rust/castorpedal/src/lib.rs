@@ -1,7 +1,7 @@
 //! The proved operations, for Rust: safe on every input.
 //!
 //! A [`Sheet`] gathers an epoch's write sets, and a [`Register`] closes the epoch with it. Both own their bytes and are always well-formed.
-//! An operation that cannot be done answers a [`Refusal`] and changes nothing.
+//! An operation that cannot be done answers a [`Refusal`] and changes nothing; `docs/FORMS.md` has the layouts and what to do about each.
 //!
 //! ```
 //! use castorpedal::{record, Refusal, Register, Row, Sheet, Verdict};

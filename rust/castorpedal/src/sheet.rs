@@ -12,6 +12,10 @@ pub struct Sheet {
     bytes: Vec<u8>,
 }
 
+/// Where the notices stand in the head, one byte a master, and the byte for none.
+const NOTICES: usize = 8;
+const NO_NOTICE: u8 = 255;
+
 /// The length of a head, and of an entry of the contents after it.
 const HEAD: usize = 24;
 const ENTRY: usize = 16;
@@ -59,6 +63,12 @@ impl Sheet {
     pub fn csns(&self) -> impl ExactSizeIterator<Item = u64> + '_ {
         let sets = usize::from(self.bytes[7]);
         self.bytes[HEAD..HEAD + ENTRY * sets].chunks_exact(ENTRY).map(|entry| u64::from_le_bytes(word(entry, 0)))
+    }
+
+    /// How many sets a master of the roster noticed, if it did. Where closing is refused with 7, a master has no notice or fewer sets.
+    pub fn noticed(&self, master: u8) -> Option<u8> {
+        let notice = *self.bytes[NOTICES..HEAD].get(usize::from(master))?;
+        (notice != NO_NOTICE).then_some(notice)
     }
 
     /// The sheet's bytes, as they are sent and stored.

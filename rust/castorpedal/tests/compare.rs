@@ -2,83 +2,9 @@
 
 mod common;
 
-use common::{check, Buffers, Rng};
+use common::{check, Buffers};
 use paper::{Mark, Register, Row};
-
-/// A case's world: few keys, few csns, so that sets meet.
-struct World {
-    epoch: u32,
-    roster: u16,
-    masters: Vec<u8>,
-    keys: Vec<u32>,
-    times: u64,
-}
-
-fn world(rng: &mut Rng) -> World {
-    let roster = match rng.below(4) {
-        0 => 40,
-        1 => 0xffff,
-        2 => 1 << rng.below(16),
-        _ => (rng.next() as u16).max(1),
-    };
-    let epoch = if rng.once_in(30) { u32::MAX } else { 1 + rng.below(5) as u32 };
-    let masters = (0..16).filter(|m| roster >> m & 1 == 1).collect();
-    let mut keys: Vec<u32> = (0..2 + rng.below(12)).map(|_| 1 + rng.below(60) as u32).collect();
-    if rng.once_in(10) {
-        keys.push(u32::MAX);
-    }
-    keys.sort();
-    keys.dedup();
-    World { epoch, roster, masters, keys, times: 1 + rng.below(8) }
-}
-
-/// Record bytes: mostly well-formed, sometimes with one byte wrong.
-fn records(rng: &mut Rng, w: &World) -> Vec<u8> {
-    let mut keys: Vec<u32> = (0..1 + rng.below(4)).map(|_| rng.pick(&w.keys)).collect();
-    if !rng.once_in(40) {
-        keys.sort();
-        keys.dedup();
-    }
-    let mut out = Vec::new();
-    for key in keys {
-        let kind = rng.pick(&[1u8, 1, 1, 1, 1, 1, 2, 3]);
-        let value = if kind == 3 { 0 } else { rng.below(3) };
-        out.extend([kind, 0, 0, 0]);
-        out.extend(key.to_le_bytes());
-        out.extend(value.to_le_bytes());
-    }
-    damaged(rng, out, 60)
-}
-
-/// The bytes, and once in n times with one changed, cut off or added.
-fn damaged(rng: &mut Rng, mut bytes: Vec<u8>, n: u64) -> Vec<u8> {
-    if !rng.once_in(n) || bytes.is_empty() {
-        return bytes;
-    }
-    let at = rng.below(bytes.len() as u64) as usize;
-    match rng.below(6) {
-        0 => bytes.truncate(at),
-        1 => bytes.push(rng.next() as u8),
-        2 => bytes[at] = 0,
-        3 => bytes[at] = 255,
-        4 => bytes[at] ^= 1 << rng.below(8),
-        _ => bytes[at] = rng.next() as u8,
-    }
-    bytes
-}
-
-struct Offer {
-    sen: u32,
-    csn: u64,
-    records: Vec<u8>,
-}
-
-fn offer(rng: &mut Rng, w: &World) -> Offer {
-    let master = if rng.once_in(80) { rng.below(16) } else { u64::from(rng.pick(&w.masters)) };
-    let time = if rng.once_in(100) { u64::MAX / 16 } else { rng.below(w.times) };
-    let sen = if rng.once_in(60) { w.epoch.wrapping_add(1) } else { rng.below(u64::from(w.epoch.min(4)) + 1) as u32 };
-    Offer { sen, csn: time * 16 + master, records: records(rng, w) }
-}
+use worlds::{damaged, eight, noticed, offer, register, sets_of, world, Offer, Rng, World};
 
 /// Deals offers over sheets, with repeats, joins the sheets in a random grouping, and compares every step.
 fn gathered(rng: &mut Rng, w: &World, b: &mut Buffers, calls: &mut u64) -> Option<Vec<u8>> {
@@ -113,7 +39,7 @@ fn gathered(rng: &mut Rng, w: &World, b: &mut Buffers, calls: &mut u64) -> Optio
         if !w.masters.contains(&m) && !rng.once_in(200) {
             continue;
         }
-        let sent = paper::Sheet::read(&sheet).and_then(|s| s.offers).map_or(0, |o| o.sets_of(m as usize)) as u8;
+        let sent = sets_of(&sheet, m);
         let count = if full { sent } else { rng.pick(&[sent, sent, sent + 1, sent.saturating_sub(1), 64, 65]) };
         let master = if rng.once_in(300) { 16 } else { m };
         for _ in 0..1 + rng.below(2) {
@@ -122,21 +48,6 @@ fn gathered(rng: &mut Rng, w: &World, b: &mut Buffers, calls: &mut u64) -> Optio
         }
     }
     Some(sheet)
-}
-
-fn register(rng: &mut Rng, w: &World) -> Vec<u8> {
-    let snapshot = if rng.once_in(20) { rng.below(6) as u32 } else { w.epoch - 1 };
-    let mut rows = std::collections::BTreeMap::new();
-    for key in &w.keys {
-        if rng.once_in(6) {
-            continue;
-        }
-        let cen = rng.below(u64::from(snapshot) + 1) as u32;
-        let sen = rng.below(u64::from(cen) + 1) as u32;
-        rows.insert(*key, Row { value: rng.below(9), mark: Mark { cen, sen, csn: rng.below(40) } });
-    }
-    let bytes = Register { snapshot, rows }.bytes();
-    damaged(rng, bytes, 40)
 }
 
 /// A read check whose entries mostly stand, in a mode and with an lsn that are mostly right.
@@ -214,15 +125,6 @@ fn every_byte_matters() {
     }
 }
 
-/// The sheet with a full notice from every master of its roster.
-fn noticed(mut sheet: Vec<u8>, w: &World) -> Vec<u8> {
-    for m in &w.masters {
-        let sent = paper::Sheet::read(&sheet).unwrap().offers.map_or(0, |o| o.sets_of(*m as usize)) as u8;
-        sheet = paper::notice(&sheet, w.epoch, *m, sent, 9240).unwrap();
-    }
-    sheet
-}
-
 /// Many sets on few keys, so that most keys are fought over.
 #[test]
 fn crowded_epochs() {
@@ -238,22 +140,6 @@ fn crowded_epochs() {
         }
         b.close(&mut rng, &register, &noticed(sheet, &w));
     }
-}
-
-/// The records of set i: changes of eight rows, but the last set inserts a row, and the one before it may delete one.
-fn eight(i: u32, delete: bool) -> Vec<u8> {
-    let mut out = Vec::new();
-    for j in 0..8 {
-        let (kind, key) = match (i, j) {
-            (63, 7) => (2, 5000),
-            (62, 7) if delete => (3, 1024),
-            _ => (1, 1 + (i * 8 + j) * 2),
-        };
-        out.extend([kind, 0, 0, 0]);
-        out.extend(key.to_le_bytes());
-        out.extend(u64::from(kind != 3).to_le_bytes());
-    }
-    out
 }
 
 /// Examples K and L: 64 sets of 8 records, each put twice, and one set more; 1,024 rows, and an insert with a delete beside it or alone.

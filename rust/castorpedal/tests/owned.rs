@@ -75,6 +75,7 @@ fn what_closing_refuses() {
     let mut without_notice = Sheet::open(1, 40).unwrap();
     without_notice.notice(1, 3, 0).unwrap();
     assert_eq!(r().close(&without_notice), Err(Refusal::Incomplete));
+    assert_eq!([2, 3, 5, 15, 16, 255].map(|m| without_notice.noticed(m)), [None, Some(0), None, None, None, None]);
 
     let full: Vec<(u32, u64)> = (1001..=2024).map(|key| (key, 1)).collect();
     assert_eq!(Register::drawn_up(&full).unwrap().close(&sheet), Err(Refusal::TooManyRows));

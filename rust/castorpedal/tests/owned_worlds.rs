@@ -1,11 +1,8 @@
 //! The owned sheets and registers over seeded worlds: they give what the functions on slices give, and the paper, and tell the same of
 //! themselves; a refusal leaves a sheet as it was.
 
-#[allow(dead_code)] // its buffers are for the functions on slices
-mod common;
-
 use castorpedal::{self as lib, record, Checked, Read, Refusal, Register, Row, Sheet, Verdict};
-use common::Rng;
+use worlds::Rng;
 
 type Bytes = Result<Vec<u8>, Refusal>;
 
@@ -105,6 +102,8 @@ fn reads_back_sheet(sheet: &Sheet) {
     assert_eq!((sheet.epoch(), sheet.roster(), sheet.is_spoiled()), (read.epoch, read.roster, read.offers.is_none()));
     let csns: Vec<u64> = read.offers.iter().flat_map(|o| &o.sets).map(|s| s.csn).collect();
     assert_eq!(sheet.csns().collect::<Vec<_>>(), csns);
+    let notices = read.offers.map_or([None; 16], |o| o.notices);
+    assert_eq!(std::array::from_fn(|m| sheet.noticed(m as u8)), notices);
     assert_eq!(Sheet::try_from(sheet.bytes()).as_ref(), Ok(sheet));
 }
 

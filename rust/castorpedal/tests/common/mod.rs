@@ -1,39 +1,7 @@
-//! Seeded cases, and calls that compare the proved library with the paper: the answer and every byte of every lent buffer.
+//! Calls that compare the proved library with the paper: the answer and every byte of every lent buffer.
 
 use castorpedal as lib;
-
-/// SplitMix64: small, seeded, the same on every machine.
-pub struct Rng(pub u64);
-
-impl Rng {
-    pub fn next(&mut self) -> u64 {
-        self.0 = self.0.wrapping_add(0x9e37_79b9_7f4a_7c15);
-        let mut z = self.0;
-        z = (z ^ z >> 30).wrapping_mul(0xbf58_476d_1ce4_e5b9);
-        z = (z ^ z >> 27).wrapping_mul(0x94d0_49bb_1331_11eb);
-        z ^ z >> 31
-    }
-
-    /// A number below n.
-    pub fn below(&mut self, n: u64) -> u64 {
-        self.next() % n
-    }
-
-    /// True once in n times.
-    pub fn once_in(&mut self, n: u64) -> bool {
-        self.below(n) == 0
-    }
-
-    pub fn pick<T: Copy>(&mut self, xs: &[T]) -> T {
-        xs[self.below(xs.len() as u64) as usize]
-    }
-
-    pub fn fill(&mut self, out: &mut [u8]) {
-        for b in out {
-            *b = self.next() as u8;
-        }
-    }
-}
+use worlds::Rng;
 
 /// What an operation on one buffer must leave: the bytes at its start and all else as it was, or at a refusal all as it was.
 fn one_buffer(expected: Result<Vec<u8>, u32>, before: &[u8], got: Result<usize, lib::Refusal>, after: &[u8]) -> Option<Vec<u8>> {
