@@ -1,5 +1,5 @@
-//! The proved library is measured beside Rust: `twin` does the same by the same algorithms, `rival` closes as fast as plain Rust does, and
-//! `paper` is the independent implementation, which keeps maps and vectors.
+//! The proved library is measured beside Rust: `twin` does the same work in plain Rust, `rival` closes by a faster algorithm, and `paper`
+//! is the independent implementation, which keeps maps and vectors.
 
 pub mod inputs;
 pub mod lines;

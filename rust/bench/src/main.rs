@@ -1,5 +1,5 @@
 //! `cargo run --release -p bench`: times of the proved library beside Rust, in the same run, and the stack that it uses.
-//! `bench count LINE WHO [PASSES]` only makes the passes of one line, for `rust/bench/count`.
+//! `bench count LINE WHO [PASSES]` only makes the passes of one line, to be counted from outside, as `rust/bench/count` does.
 
 mod clock;
 mod stack;

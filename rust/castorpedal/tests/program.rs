@@ -8,7 +8,7 @@ use std::io::Write;
 use std::path::{Path, PathBuf};
 use std::process::{Command, Output, Stdio};
 
-/// KiB of stack within which a full input must be closed. The program needs 203,040 bytes; the system's own use of the stack comes on top.
+/// KiB of stack within which a full input must be closed. The program needs 203,072 bytes; the system's own use of the stack comes on top.
 const STACK: u32 = 256;
 
 /// KiB of stack that hold not even the register and the text together.

@@ -1,4 +1,5 @@
-//! The proved library's operations in plain Rust, by the library's own algorithms: what a Rust programmer would write to do the same.
+//! Put, notice, join and close in plain Rust: what a Rust programmer would write to do the same. Closing is the library's own algorithm; joining
+//! is the best that we could write.
 //!
 //! Each answers the lengths that it wrote, or document 01's number of a refusal, and then leaves the lent bytes alone. Nothing is allocated.
 
