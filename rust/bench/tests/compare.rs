@@ -4,7 +4,7 @@ use bench::lines::{assert_alike, Buffers, LINES};
 use bench::{rival, twin};
 use paper::{Mark, Register, Row, REGISTER_ROOM, SHEET_ROOM, VERDICT_ROOM};
 use std::collections::{BTreeMap, BTreeSet};
-use worlds::{damaged, eight, noticed, offer, record, register, sets_of, world, Rng, World};
+use worlds::{crowded, damaged, eight, noticed, offer, record, register, sets_of, world, Rng, World};
 
 /// Makes the calls, each with lent bytes full of noise, and keeps what was seen: the refusals, and 0 for a success.
 struct Desk {
@@ -147,12 +147,8 @@ fn crowded_epochs() {
     for _ in 0..150 {
         let w = world(&mut d.rng);
         let register = register(&mut d.rng, &w);
-        let mut sheet = paper::open(w.epoch, w.roster, SHEET_ROOM).unwrap();
-        for i in 0..d.rng.below(65) {
-            let o = offer(&mut d.rng, &w);
-            sheet = paper::put(&sheet, w.epoch, o.sen, i * 16 + o.csn % 16, &o.records, SHEET_ROOM).unwrap_or(sheet);
-        }
-        d.close(&register, &noticed(sheet, &w));
+        let sheet = crowded(&mut d.rng, &w);
+        d.close(&register, &sheet);
     }
 }
 

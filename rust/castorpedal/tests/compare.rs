@@ -4,7 +4,7 @@ mod common;
 
 use common::{check, Buffers};
 use paper::{Mark, Register, Row};
-use worlds::{damaged, eight, noticed, offer, register, sets_of, world, Offer, Rng, World};
+use worlds::{crowded, damaged, eight, noticed, offer, register, sets_of, world, Offer, Rng, World};
 
 /// Deals offers over sheets, with repeats, joins the sheets in a random grouping, and compares every step.
 fn gathered(rng: &mut Rng, w: &World, b: &mut Buffers, calls: &mut u64) -> Option<Vec<u8>> {
@@ -133,12 +133,8 @@ fn crowded_epochs() {
     for _ in 0..2_000 {
         let w = world(&mut rng);
         let register = register(&mut rng, &w);
-        let mut sheet = paper::open(w.epoch, w.roster, 9240).unwrap();
-        for i in 0..rng.below(65) {
-            let o = offer(&mut rng, &w);
-            sheet = paper::put(&sheet, w.epoch, o.sen, i * 16 + o.csn % 16, &o.records, 9240).unwrap_or(sheet);
-        }
-        b.close(&mut rng, &register, &noticed(sheet, &w));
+        let sheet = crowded(&mut rng, &w);
+        b.close(&mut rng, &register, &sheet);
     }
 }
 

@@ -119,6 +119,16 @@ pub fn noticed(mut sheet: Vec<u8>, w: &World) -> Vec<u8> {
     sheet
 }
 
+/// A sheet of up to 64 sets on the world's few keys, so that most are fought over, with full notices.
+pub fn crowded(rng: &mut Rng, w: &World) -> Vec<u8> {
+    let mut sheet = paper::open(w.epoch, w.roster, SHEET_ROOM).unwrap();
+    for i in 0..rng.below(65) {
+        let o = offer(rng, w);
+        sheet = paper::put(&sheet, w.epoch, o.sen, i * 16 + o.csn % 16, &o.records, SHEET_ROOM).unwrap_or(sheet);
+    }
+    noticed(sheet, w)
+}
+
 /// The 8 records of set i of the full epoch over rows 1 to 1,024: changes of every second key, but the last set inserts a row, and the one
 /// before it may delete one.
 pub fn eight(i: u32, delete: bool) -> Vec<u8> {
