@@ -10,7 +10,7 @@ use Rattle.rules.specs.declared.answer.Closed.the-variants.{Wrote, Refused}
 use Rattle.rules.specs.Answers.{closedNumbers, refusalNumber}
 use Rattle.rules.specs.Register.{Register, maxRows}
 use Rattle.rules.specs.Sheet.{Sheet, maxSets}
-use Rattle.rules.specs.Closing.{nextRows, next}
+use Rattle.rules.specs.Becoming.{nextRows, next}
 use Rattle.rules.specs.Refused.{Outcome, refused, done, Closing, registerRoom, verdictRoom, closing, closeOutcome}
 use Rattle.rules.specs.Promises.{toldClosing, ClosePromise}
 use Rattle.laws.specs.SheetLaws.{soundSheet→, written-read}

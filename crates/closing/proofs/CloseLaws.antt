@@ -2,19 +2,21 @@
 use Prim.Native.Nat.{ℕ, _+_, _≤_, _<_}
 use mathlib.Core.Path.{_≡_, sym, _∙_, ap}
 use mathlib.Core.Bool.{true, false}
-use mathlib.Core.List.{[]}
+use mathlib.Core.List.{List, []}
 use mathlib.Core.Option.{some}
 use native.Mathlib.Omega.{arith}
 use borrow.Author.Tests.{lt-ltb, le-ltb}
 use lib.ListN.{length}
 use lib.Dec.{eqb}
 use Rattle.words.specs.Words.{Bytes}
+use Rattle.rules.specs.declared.row.Row.{Row}
 use Rattle.rules.specs.declared.answer.Closed.{Closed}
 use Rattle.rules.specs.declared.answer.Closed.the-variants as closed
 use Rattle.rules.specs.Lists.{_or_, flat}
 use Rattle.rules.specs.Register.{Register, maxRows, isRegister, registerIn}
 use Rattle.rules.specs.Sheet.{Sheet, isSheet, sheetIn}
-use Rattle.rules.specs.Closing.{complete, nextRows, next, verdicts}
+use Rattle.rules.specs.Closing.{complete, verdicts}
+use Rattle.rules.specs.Becoming.{nextRows, next}
 use Rattle.rules.specs.Refused.{Outcome, refused, done, Closing, closing, registerRoom, verdictRoom, verdictBytes, closeSheet, closeOutcome}
 use Rattle.rules.specs.Promises.{over, toldClosing, leftRegister, leftVerdicts, ClosePromise}
 use Rattle.laws.specs.RegisterLaws.{register-read, register-unread}
@@ -85,36 +87,40 @@ module _ (g : Register) (s : Sheet) (n m : ℕ) where
 
 -- ---- what is written
 
-module _ (g : Register) (s : Sheet) (few : length (nextRows g s) ≤ maxRows) where
+module _ (rows : List Row) (few : length rows ≤ maxRows) where
   -- the draft that was begun has room for the next rows
-  pub next-fits : {before mid : Bytes} {d : Draft} (snap : ℕ) → registerRoom ≤ length before → d.rows ≡ length (nextRows g s) → RowsPut snap [] before d mid
-      → RowsFit d (length (nextRows g s)) mid
+  pub next-fits : {before mid : Bytes} {d : Draft} (snap : ℕ) → registerRoom ≤ length before → d.rows ≡ length rows → RowsPut snap [] before d mid
+      → RowsFit d (length rows) mid
   next-fits {d = d} snap room n p =
       record {
         few = rw n few;
-        room = rw (n, p .long) (omega (arith, length-fits (length (nextRows g s)) few));
+        room = rw (n, p .long) (omega (arith, length-fits (length rows) few));
         left = omega (arith, n, p .put);
       }
 
   -- once its rows are put the next register stands, and it is as long as its draft says
-  pub next-stands : {before mid after : Bytes} {d e : Draft} (snap : ℕ) → snap ≡ g.snapshot + 1 → registerRoom ≤ length before → d.rows ≡ length (nextRows g s)
-      → RowsPut snap [] before d mid → RowsAdded (nextRows g s) d mid e after → {r : ℕ} → r ≡ registerLength e.rows → NextStands g s before r after
-  unfolding next
-  next-stands {before} {e = e} snap epoch room n p q {r} long =
-      let rows : e.rows ≡ length (nextRows g s) = q .same ∙ n in
-      let wide : registerLength e.rows ≤ length before = rw rows (omega (arith, length-fits (length (nextRows g s)) few)) in
+  pub next-stands : (snapshot : ℕ) {before mid after : Bytes} {d e : Draft} (snap : ℕ) → snap ≡ snapshot → registerRoom ≤ length before → d.rows ≡ length rows
+      → RowsPut snap [] before d mid → RowsAdded rows d mid e after → {r : ℕ} → r ≡ registerLength e.rows
+      → NextStands (record { snapshot = snapshot; rows = rows }) before r after
+  next-stands snapshot {before} {e = e} snap epoch room n p q {r} long =
+      let g : Register = record { snapshot = snapshot; rows = rows } in
+      let many : e.rows ≡ length rows = q .same ∙ n in
+      let wide : registerLength e.rows ≤ length before = rw many (omega (arith, length-fits (length rows) few)) in
       record {
-        bytes = finished (next g s) rows wide (rw epoch at (q .behind snap [] before p));
-        long = long ∙ ap registerLength rows ∙ sym (register-long (next g s));
+        bytes = finished g many wide (rw epoch at (q .behind snap [] before p));
+        long = long ∙ ap registerLength many ∙ sym (register-long g);
       }
 
-  pub closes : (a b : Bytes) {a′ b′ : Bytes} (n m : ℕ) → registerRoom ≤ length a → verdictRoom ≤ length b → NextStands g s a n a′ → m ≡ verdictsLength (length s.sets)
-      → b′ ≡ over b (flat verdictBytes (verdicts g s)) → ClosePromise (closeComplete g s (length a) (length b)) a b (closed.Wrote n m) a′ b′
-  unfolding toldClosing leftRegister leftVerdicts closing
-  closes a b n m h k p f q =
-      alike (complete-done g s (length a) (length b) few h k)
-      (record {
-        answered = λ i. (0, p .long i, (f ∙ sym (verdicts-long g s)) i);
-        next = p .bytes;
-        verdicts = q;
-      })
+-- the rows that are written are the next rows
+pub closes : (g : Register) (s : Sheet) {rows : List Row} → rows ≡ nextRows g s → length rows ≤ maxRows → (a b : Bytes) {a′ b′ : Bytes} (n m : ℕ)
+    → registerRoom ≤ length a → verdictRoom ≤ length b → NextStands (record { snapshot = g.snapshot + 1; rows = rows }) a n a′ → m ≡ verdictsLength (length s.sets)
+    → b′ ≡ over b (flat verdictBytes (verdicts g s)) → ClosePromise (closeComplete g s (length a) (length b)) a b (closed.Wrote n m) a′ b′
+unfolding toldClosing leftRegister leftVerdicts closing next
+closes g s e few a b {a′} n m h k stands f q =
+    let p : NextStands (next g s) a n a′ = rw e at stands in
+    alike (complete-done g s (length a) (length b) (rw e at few) h k)
+    (record {
+      answered = λ i. (0, p .long i, (f ∙ sym (verdicts-long g s)) i);
+      next = p .bytes;
+      verdicts = q;
+    })

@@ -9,7 +9,7 @@ use Rattle.rules.specs.declared.answer.Verdict.the-variants.{Commit, Lost, Unfi
 use Rattle.rules.specs.Lists.{_or_, if_then_else_}
 use Rattle.rules.specs.Register.{Register, maxRows, registerBytes}
 use Rattle.rules.specs.Sheet.{Sheet}
-use Rattle.rules.specs.Closing.{nextRows, next}
+use Rattle.rules.specs.Becoming.{nextRows}
 use Rattle.rules.specs.Refused.{Outcome, refused, done, Closing, closing, registerRoom, verdictRoom}
 use Rattle.rules.specs.Promises.{over}
 use Rattle.judging.specs.declared.key.FirstKey.{FirstKey}
@@ -28,7 +28,7 @@ closeComplete g s nextRoom room =
     if ltb nextRoom registerRoom or ltb room verdictRoom then refused 9 else
     done (closing g s)
 
--- a buffer that held `before` has the next register over it, and n is its length
-pub record NextStands (g : Register) (s : Sheet) (before : Bytes) (n : ℕ) (after : Bytes) : Type 0 where
-  pub bytes : after ≡ over before (registerBytes (next g s))
-  pub long : n ≡ length (registerBytes (next g s))
+-- a buffer that held `before` has a register over it, and n is its length
+pub record NextStands (next : Register) (before : Bytes) (n : ℕ) (after : Bytes) : Type 0 where
+  pub bytes : after ≡ over before (registerBytes next)
+  pub long : n ≡ length (registerBytes next)

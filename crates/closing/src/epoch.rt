@@ -28,10 +28,10 @@ ghost use lib.ListN.{length};
 ghost use lib.Dec.{eqb};
 ghost use Rattle.rules.specs.Register.{maxRows, isRegister, registerIn};
 ghost use Rattle.rules.specs.Sheet.{maxSets, isSheet, sheetIn};
-ghost use Rattle.rules.specs.Closing.{nextRows};
 ghost use Rattle.rules.specs.Refused.{registerRoom, verdictRoom, closeSheet, closeOutcome};
 ghost use Rattle.rules.specs.Promises.{ClosePromise};
 ghost use Rattle.judging.specs.Judged.{Judged};
+ghost use Rattle.next_rows.specs.NextRow.{Committing, rowsNext, nextBy};
 ghost use Rattle.closing.specs.Outcome.{closeComplete, NextStands};
 
 // Whether the sheet is of the epoch after the register's snapshot, over whole numbers: none follows the last.
@@ -43,19 +43,12 @@ fn follows(register: &[u8], sheet: &[u8]) -> bool
 }
 
 // The next register, of n rows, and its length.
-fn put_next(
-    register: &[u8],
-    sheet: &[u8],
-    wrong: &[u32],
-    lost: &[u32],
-    n: usize,
-    out: &mut [u8],
-) -> usize
-    requires { ⌜ (Judged (now register) (now sheet) (now wrong) (now lost)) × (sheetIn (now sheet) .epoch ≡ registerIn (now register) .snapshot + 1) × (n ≡ length (nextRows (registerIn (now register)) (sheetIn (now sheet)))) × (n ≤ maxRows) × (registerRoom ≤ length (now out)) ⌝ }
-    ensures { λ r. ⌜ NextStands (registerIn (now (register .entry))) (sheetIn (now (sheet .entry))) (now (out .entry)) r (now (out .exit)) ⌝ }
+fn put_next(register: &[u8], sheet: &[u8], lost: &[u32], n: usize, out: &mut [u8]) -> usize
+    requires { ⌜ (Committing (now register) (now sheet) (now lost)) × (sheetIn (now sheet) .epoch ≡ registerIn (now register) .snapshot + 1) × (n ≡ length (rowsNext (now register) (now sheet) (now lost))) × (n ≤ maxRows) × (registerRoom ≤ length (now out)) ⌝ }
+    ensures { λ r. ⌜ NextStands (nextBy (now (register .entry)) (now (sheet .entry)) (now (lost .entry))) (now (out .entry)) r (now (out .exit)) ⌝ }
 {
     let begun = start_register(out, epoch(sheet), n);
-    finish_register(put_rows(register, sheet, wrong, lost, out, begun))
+    finish_register(put_rows(register, sheet, lost, out, begun))
 }
 
 // Both tables: who is found wrong, and who loses what.
@@ -77,10 +70,10 @@ fn write(
     next: &mut [u8],
     verdicts: &mut [u8],
 ) -> Closed
-    requires { ⌜ (Judged (now register) (now sheet) (now wrong) (now lost)) × (sheetIn (now sheet) .epoch ≡ registerIn (now register) .snapshot + 1) × (n ≡ length (nextRows (registerIn (now register)) (sheetIn (now sheet)))) × (n ≤ maxRows) × (registerRoom ≤ length (now next)) × (verdictRoom ≤ length (now verdicts)) ⌝ }
+    requires { ⌜ (Judged (now register) (now sheet) (now wrong) (now lost)) × (sheetIn (now sheet) .epoch ≡ registerIn (now register) .snapshot + 1) × (n ≡ length (rowsNext (now register) (now sheet) (now lost))) × (n ≤ maxRows) × (registerRoom ≤ length (now next)) × (verdictRoom ≤ length (now verdicts)) ⌝ }
     ensures { λ r. ⌜ ClosePromise (closeComplete (registerIn (now (register .entry))) (sheetIn (now (sheet .entry))) (length (now (next .entry))) (length (now (verdicts .entry)))) (now (next .entry)) (now (verdicts .entry)) r (now (next .exit)) (now (verdicts .exit)) ⌝ }
 {
-    let length = put_next(register, sheet, wrong, lost, n, next);
+    let length = put_next(register, sheet, lost, n, next);
     put_verdicts(sheet, wrong, lost, verdicts);
     Closed::Wrote {
         register: length,
@@ -96,7 +89,7 @@ fn close_complete(register: &[u8], sheet: &[u8], next: &mut [u8], verdicts: &mut
     let mut wrong = [0u32; MAX_SETS];
     let mut lost = [0u32; MAX_SETS];
     judge(register, sheet, &mut wrong, &mut lost);
-    let n = next_count(register, sheet, &wrong, &lost);
+    let n = next_count(register, sheet, &lost);
     if MAX_ROWS < n {
         return Closed::Refused(Refusal::TooManyRows);
     }

@@ -17,7 +17,8 @@ use Rattle.rules.specs.Lists.{_and_, _or_, if_then_else_, any, first}
 use Rattle.rules.specs.Numbers.{precedes}
 use Rattle.rules.specs.Register.{Register}
 use Rattle.rules.specs.Sheet.{WriteSet, Sheet, csnOf, soundSheet}
-use Rattle.rules.specs.Closing.{fitRecord, fit, firstWrong, names, markIn, winner, isSet, wins, appliedTo}
+use Rattle.rules.specs.Closing.{fitRecord, fit, firstWrong, names, markIn, winner, isSet, wins}
+use Rattle.rules.specs.Becoming.{appliedTo}
 use Rattle.laws.specs.Tests.{left, right, both, not-true-false}
 use Rattle.laws.specs.ListLaws.{first→}
 use Rattle.laws.specs.Says.{clash}

@@ -1,28 +1,31 @@
--- What the tables of a sound sheet say is so: each place gives back the set's first key, and where none is lost the set commits.
+-- What the tables of a sound sheet say is so: each place gives back the set's first key, and where none is lost the set commits; and
+-- which sets commit by a table.
 use Prim.Native.Nat.{ℕ, _<_}
 use mathlib.Core.Path.{_≡_, refl, sym, _∙_, ap}
 use mathlib.Core.Bool.{Bool, true, not}
-use mathlib.Core.List.{List, List·Memᴰ}
+use mathlib.Core.List.{List, List·Memᴰ, Memᴰ·map, Memᴰ·of-map}
 use mathlib.Core.Option.{Option, none, some}
 use native.Mathlib.Omega.{arith}
 use borrow.Author.Tests.{ne-eqb, not-true, not-false}
 use lib.ListN.{length, getD}
 use Rattle.rules.specs.declared.row.Record.{Record}
-use Rattle.rules.specs.Lists.{first}
+use Rattle.rules.specs.Lists.{first, keep, upFrom}
 use Rattle.rules.specs.Register.{Register}
 use Rattle.rules.specs.Sheet.{WriteSet, Sheet, soundRecords, soundSheet}
-use Rattle.rules.specs.Closing.{wins, firstWrong, firstLost, commits, applied}
+use Rattle.rules.specs.Closing.{wins, firstWrong, firstLost, commits, committed}
+use Rattle.rules.specs.Becoming.{applied}
 use Rattle.laws.specs.Tests.{not-true-false}
-use Rattle.laws.specs.ListLaws.{first→, first-none}
+use Rattle.laws.specs.ListLaws.{first→, first-none, keep→, →keep, upFrom→, →upFrom}
 use Rattle.laws.specs.Says.{clash}
 use Rattle.laws.specs.SheetLaws.{soundSet→}
 use Rattle.laws.specs.Winners.{sheet-apart, winner→, wins→}
 use Rattle.laws.specs.Commits.{set-sound, set-records, records-rising, fit-record, commits→, →commit, commits-of}
 use Rattle.laws.specs.Applied.{→applied}
-use Rattle.sheets.specs.SheetReadings.{setAt, recordAt}
+use Rattle.laws.specs.Places.{kept-places}
+use Rattle.sheets.specs.SheetReadings.{setAt, noSet, recordAt}
 use Rattle.sheets.specs.SheetMembers.{set-in, record-in}
 use Rattle.judging.specs.Answers.{firstKey}
-use Rattle.judging.specs.Tables.{inTable, fromTable, isNone, noneAt, wrongKey, lostKey, Tells}
+use Rattle.judging.specs.Tables.{inTable, fromTable, isNone, noneAt, committedIn, wrongKey, lostKey, Tells}
 
 -- keys of sound records are at least 1, so that a table gives back the key of the first one which passes
 back : (p : Record → Bool) (w : WriteSet) → soundRecords w.records ≡ true → fromTable (inTable (firstKey (first p w.records))) ≡ firstKey (first p w.records)
@@ -73,11 +76,35 @@ module _ (g : Register) (s : Sheet) (lost : List ℕ) (sound : soundSheet s ≡ 
   unfolding noneAt
   commit-told = ap isNone lost-told ∙ lost-commits g s (setAt s i) sound (set-in s i h)
 
-  pub commits-told : commits g s (setAt s i) ≡ true → noneAt lost i ≡ true
-  commits-told c = commit-told ∙ c
+-- THE SETS THAT COMMIT BY THE TABLE OF LOST KEYS ARE THOSE THAT CLOSING COMMITS
+pub table-commits : (g : Register) (s : Sheet) (lost : List ℕ) → soundSheet s ≡ true → Tells (lostKey g s) s lost → committedIn s lost ≡ committed g s
+unfolding committedIn committed setAt
+table-commits g s lost sound t = kept-places noSet (commits g s) (noneAt lost) s.sets (commit-told g s lost sound t)
+
+-- ---- the sets that commit by a table, by their places
+
+-- a set stands at a place that has no key
+pub record CommitsAt (s : Sheet) (lost : List ℕ) (w : WriteSet) : Type 0 where
+  pub number : ℕ
+  pub within : number < length s.sets
+  pub no-key : noneAt lost number ≡ true
+  pub is-set : setAt s number ≡ w
+
+module _ (s : Sheet) (lost : List ℕ) where
+  pub committedIn→ : (w : WriteSet) → List·Memᴰ w (committedIn s lost) → CommitsAt s lost w
+  unfolding committedIn
+  committedIn→ w m =
+      let p = Memᴰ·of-map (setAt s) (keep (noneAt lost) (upFrom 0 (length s.sets))) m in
+      let q = keep→ (noneAt lost) (upFrom 0 (length s.sets)) (p .1) in
+      let h = upFrom→ 0 (length s.sets) (q .0) .1 in
+      record { number = p .0; within = omega arith; no-key = q .1; is-set = p .2 }
+
+  pub →committedIn : (i : ℕ) → i < length s.sets → noneAt lost i ≡ true → List·Memᴰ (setAt s i) (committedIn s lost)
+  unfolding committedIn
+  →committedIn i h e = Memᴰ·map (setAt s) (→keep (noneAt lost) (→upFrom 0 (length s.sets) (omega arith) (omega arith)) e)
 
   -- the records of such a set are applied
-  pub applied-at : (j : ℕ) → noneAt lost i ≡ true → j < length (setAt s i .records) → List·Memᴰ (recordAt (setAt s i) j) (applied g s)
-  applied-at j z k =
-      →applied g s (recordAt (setAt s i) j)
-      (record { set = setAt s i; in-sheet = set-in s i h; committed = sym commit-told ∙ z; in-set = record-in (setAt s i) j k })
+  pub applied-at : (i j : ℕ) → i < length s.sets → noneAt lost i ≡ true → j < length (setAt s i .records) → List·Memᴰ (recordAt (setAt s i) j) (applied (committedIn s lost))
+  applied-at i j h e k =
+      →applied (committedIn s lost) (recordAt (setAt s i) j)
+      (record { set = setAt s i; committed = →committedIn i h e; in-set = record-in (setAt s i) j k })

@@ -2,10 +2,10 @@
 use Prim.Native.Nat.{ℕ, _<_}
 use mathlib.Core.Path.{_≡_}
 use mathlib.Core.Bool.{Bool, true, false}
-use mathlib.Core.List.{List}
+use mathlib.Core.List.{List, map}
 use lib.ListN.{length, getD}
 use lib.Dec.{eqb}
-use Rattle.rules.specs.Lists.{_and_, if_then_else_}
+use Rattle.rules.specs.Lists.{_and_, if_then_else_, keep, upFrom}
 use Rattle.rules.specs.Register.{Register}
 use Rattle.rules.specs.Sheet.{WriteSet, Sheet}
 use Rattle.rules.specs.Closing.{names, firstWrong, firstLost}
@@ -31,6 +31,10 @@ isNone (Key k) = false
 -- a table has no key at place i
 unfoldable pub noneAt : List ℕ → ℕ → Bool
 noneAt xs i = isNone (fromTable (getD xs i 0))
+
+-- the sets of a sheet for which a table has no key; by the table of lost keys they are those that commit
+unfoldable pub committedIn : Sheet → List ℕ → List WriteSet
+committedIn s lost = map (setAt s) (keep (noneAt lost) (upFrom 0 (length s.sets)))
 
 -- the first key of a set found wrong
 unfoldable pub wrongKey : Register → WriteSet → FirstKey

@@ -25,7 +25,7 @@ ghost use Rattle.judging.specs.Answers.{winnerOf, wonBy};
 ghost use Rattle.judging.specs.Tables.{claimsBy, wrongKey, lostKey, Tells};
 
 // The mark that set i gives.
-fn mark_of(sheet: &[u8], i: usize) -> Mark
+pub fn mark_of(sheet: &[u8], i: usize) -> Mark
     requires { ⌜ (isSheet (now sheet) ≡ true) × (i < length (sheetIn (now sheet) .sets)) ⌝ }
     ensures { λ r. ⌜ r ≡ markIn (sheetIn (now (sheet .entry))) (setAt (sheetIn (now (sheet .entry))) i) ⌝ }
 {

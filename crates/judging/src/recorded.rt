@@ -7,7 +7,7 @@ ghost use mathlib.Core.Bool.{true};
 ghost use Prim.Native.Nat.{_<_};
 ghost use lib.ListN.{length};
 ghost use Rattle.rules.specs.Sheet.{isSheet, sheetIn};
-ghost use Rattle.rules.specs.Closing.{appliedTo};
+ghost use Rattle.rules.specs.Becoming.{appliedTo};
 ghost use Rattle.sheets.specs.SheetReadings.{setAt};
 ghost use Rattle.judging.specs.Answers.{recorded};
 

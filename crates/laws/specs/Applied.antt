@@ -1,4 +1,4 @@
--- The records that closing applies are those of the committed sets, and no two of them have one key.
+-- The applied records are those of the committed sets, and no two of them have one key, whatever chose the sets.
 use Prim.Native.Nat.{ℕ, _<_}
 use mathlib.Core.Path.{_≡_, refl, sym, _∙_, ap}
 use mathlib.Core.Logic.{⊎-elim}
@@ -11,13 +11,15 @@ use lib.Dec.{eqb}
 use Rattle.rules.specs.declared.row.Record.{Record}
 use Rattle.rules.specs.Lists.{if_then_else_, keep, first, flat}
 use Rattle.rules.specs.Register.{Register}
-use Rattle.rules.specs.Sheet.{WriteSet, csnOf, Sheet, recordKey, soundRecord, soundRecords, soundSheet}
-use Rattle.rules.specs.Closing.{fitRecord, commits, applied, appliedTo}
+use Rattle.rules.specs.Sheet.{WriteSet, Sheet, recordKey, soundRecord, soundRecords, soundSheet}
+use Rattle.rules.specs.Closing.{fitRecord, names}
+use Rattle.rules.specs.Becoming.{applied, appliedTo}
 use Rattle.laws.specs.Tests.{right}
-use Rattle.laws.specs.ListLaws.{all→, keep→, →keep, first→, first-none, flat→, →flat}
-use Rattle.laws.specs.Rising.{Rising, nil, cons, rising-keep}
-use Rattle.laws.specs.Distinct.{Sorted, sheet-sorted}
-use Rattle.laws.specs.Commits.{set-records, records-rising, commits→, commits-apart}
+use Rattle.laws.specs.ListLaws.{all→, keep→, first→, first-none, flat→, →flat}
+use Rattle.laws.specs.Rising.{Rising, nil, cons}
+use Rattle.laws.specs.Distinct.{Sorted}
+use Rattle.laws.specs.Commits.{set-records, records-rising, fit-record, names-own}
+use Rattle.laws.specs.Choice.{Choice}
 
 -- no two of the records have one key
 pub data OneEach : List Record → Type 0 where
@@ -61,45 +63,45 @@ flat-each (cons {x = w} {xs = ws} f s) d a =
     clash : (v : WriteSet) → w.csn < v.csn → w ≡ v → ⊥
     clash v h e = let c = ap (λ (x : WriteSet). x.csn) e in omega arith
 
+-- ---- the records of committed sets
+
 -- an applied record is a committed set's
-pub record IsApplied (g : Register) (s : Sheet) (r : Record) : Type 0 where
+pub record IsApplied (c : List WriteSet) (r : Record) : Type 0 where
   pub set : WriteSet
-  pub in-sheet : List·Memᴰ set s.sets
-  pub committed : commits g s set ≡ true
+  pub committed : List·Memᴰ set c
   pub in-set : List·Memᴰ r set.records
 
-pub applied→ : (g : Register) (s : Sheet) (r : Record) → List·Memᴰ r (applied g s) → IsApplied g s r
+pub applied→ : (c : List WriteSet) (r : Record) → List·Memᴰ r (applied c) → IsApplied c r
 unfolding applied
-applied→ g s r m =
-    let a = flat→ (λ w. w.records) (keep (commits g s) s.sets) m in
-    let b = keep→ (commits g s) s.sets (a .1) in
-    record { set = a .0; in-sheet = b .0; committed = b .1; in-set = a .2 }
+applied→ c r m = let a = flat→ (λ w. w.records) c m in record { set = a .0; committed = a .1; in-set = a .2 }
 
-pub →applied : (g : Register) (s : Sheet) (r : Record) → IsApplied g s r → List·Memᴰ r (applied g s)
+pub →applied : (c : List WriteSet) (r : Record) → IsApplied c r → List·Memᴰ r (applied c)
 unfolding applied
-→applied g s r a = →flat (λ w. w.records) (→keep (commits g s) (a .in-sheet) (a .committed)) (a .in-set)
+→applied c r a = →flat (λ w. w.records) (a .committed) (a .in-set)
 
--- it fits the register
-pub applied-fits : (g : Register) (s : Sheet) (r : Record) → List·Memᴰ r (applied g s) → fitRecord g r ≡ true
-applied-fits g s r m = let a = applied→ g s r m in commits→ g s (a .set) (a .committed) r (a .in-set) .0
+module _ (g : Register) (s : Sheet) (c : List WriteSet) (h : Choice g s c) where
+  -- it fits the register
+  pub applied-fits : (r : Record) → List·Memᴰ r (applied c) → fitRecord g r ≡ true
+  applied-fits r m = let a = applied→ c r m in fit-record g (a .set) (h .are-fit (a .set) (a .committed)) r (a .in-set)
 
--- NO TWO APPLIED RECORDS HAVE ONE KEY
-pub applied-each : (g : Register) (s : Sheet) → soundSheet s ≡ true → OneEach (applied g s)
-unfolding applied
-applied-each g s e =
-    let in-sheet : (w : WriteSet) → List·Memᴰ w (keep (commits g s) s.sets) → List·Memᴰ w s.sets × (commits g s w ≡ true) = λ w m. keep→ (commits g s) s.sets m in
-    flat-each (rising-keep csnOf (commits g s) (sheet-sorted s e))
-    (λ w m. rising-each (records-rising w.records (set-records s w e (in-sheet w m .0)) .0))
-    (λ v w p q m n k l c. commits-apart g s v w p q e (in-sheet v m .0) (in-sheet w n .0) (in-sheet v m .1) (in-sheet w n .1) k l c)
+  module _ (sound : soundSheet s ≡ true) where
+    committed-records : (w : WriteSet) → List·Memᴰ w c → soundRecords w.records ≡ true
+    committed-records w m = set-records s w sound (h .in-sheet w m)
 
--- the numbers of an applied record are sound, and its key is above 0
-pub applied-sound : (g : Register) (s : Sheet) (r : Record) → soundSheet s ≡ true → List·Memᴰ r (applied g s) → soundRecord r ≡ true
-unfolding soundRecords
-applied-sound g s r e m =
-    let a = applied→ g s r m in all→ soundRecord (right _ _ (right _ _ (right _ _ (set-records s (a .set) e (a .in-sheet))))) (a .in-set)
+    -- NO TWO APPLIED RECORDS HAVE ONE KEY
+    pub applied-each : OneEach (applied c)
+    unfolding applied
+    applied-each =
+        flat-each (h .in-order) (λ w m. rising-each (records-rising w.records (committed-records w m) .0))
+        (λ v w p q m n k l e. h .one-on-a-key v w p.key m n (names-own v p k) (ap (names w) e ∙ names-own w q l))
 
-pub applied-above : (g : Register) (s : Sheet) (r : Record) → soundSheet s ≡ true → List·Memᴰ r (applied g s) → 0 < r.key
-applied-above g s r e m = let a = applied→ g s r m in records-rising (a .set .records) (set-records s (a .set) e (a .in-sheet)) .1 r (a .in-set)
+    -- the numbers of an applied record are sound, and its key is above 0
+    pub applied-sound : (r : Record) → List·Memᴰ r (applied c) → soundRecord r ≡ true
+    unfolding soundRecords
+    applied-sound r m = let a = applied→ c r m in all→ soundRecord (right _ _ (right _ _ (right _ _ (committed-records (a .set) (a .committed))))) (a .in-set)
+
+    pub applied-above : (r : Record) → List·Memᴰ r (applied c) → 0 < r.key
+    applied-above r m = let a = applied→ c r m in records-rising (a .set .records) (committed-records (a .set) (a .committed)) .1 r (a .in-set)
 
 -- ---- the applied record of a key
 

@@ -1,5 +1,6 @@
--- DEMAND 2 asked of any closing, over what it answers and leaves in its buffers: the verdicts and the next register of document 01's rule
--- where nothing refuses, else the smallest refusal that applies. It asks just what `close` promises, and the paper's closing meets it.
+-- DEMAND 2 asked of any closing, over what it answers and leaves in its buffers: the verdicts and the next register of document 01's rule,
+-- with L1's marks, where nothing refuses, else the smallest refusal that applies. It asks just what `close` promises, and the paper's closing
+-- meets it.
 use Prim.Native.Nat.{ℕ, _+_, _≤_}
 use mathlib.Core.Path.{_≡_, refl, sym, subst, _∙_, ap}
 use mathlib.Core.Bool.{true, false, not}
@@ -15,7 +16,8 @@ use Rattle.rules.specs.declared.answer.Closed.the-variants.{Wrote, Refused}
 use Rattle.rules.specs.Lists.{_or_}
 use Rattle.rules.specs.Register.{Register, maxRows, registerIn, readRegister}
 use Rattle.rules.specs.Sheet.{Sheet, sheetIn, readSheet}
-use Rattle.rules.specs.Closing.{complete, nextRows, next}
+use Rattle.rules.specs.Closing.{complete}
+use Rattle.rules.specs.Becoming.{nextRows, next}
 use Rattle.rules.specs.Refused.{Outcome, refused, done, Closing, closing, registerRoom, verdictRoom, closeSheet, closeOutcome}
 use Rattle.rules.specs.Promises.{over, ClosePromise}
 use Rattle.rules.specs.Applies.{toClose, Smallest}

@@ -20,7 +20,8 @@ use Rattle.rules.specs.Forms.{read}
 use Rattle.rules.specs.Register.{Register, maxRows, registerIn, isRegister, readRegister}
 use Rattle.rules.specs.Sheet.{Sheet, noNotice, maxSets, masters, inRoster, setsOf, sheetBytes, sheetIn, isSheet, readSheet, offeredRecords, areRecords, readRecords}
 use Rattle.rules.specs.Gathering.{Offer, aSet, aNotice, emptySheet, withOffer, joined}
-use Rattle.rules.specs.Closing.{sent, complete, nextRows, next}
+use Rattle.rules.specs.Closing.{sent, complete}
+use Rattle.rules.specs.Becoming.{nextRows, next}
 use Rattle.rules.specs.ReadCheck.{readCommitted, repeatableRead, snapshotIsolation, checkFrom, readsOf}
 use Rattle.rules.specs.Answers.{refusalNumber}
 use Rattle.rules.specs.Refused.{Outcome, refused, done, sheetRoom, registerRoom, verdictRoom, maxReads, openOutcome, setWith, offeredSet, offeredNotice, offerTo, putOutcome, noticeOutcome, joinSheets, joinOutcome, closing, closeSheet, closeOutcome, badCheck, checkReads, readsOutcome, checkOutcome}

@@ -137,8 +137,12 @@ A = six ∷ two ∷ notice 3 1 ∷ notice 5 1 ∷ []
 abbrev B : List Step
 B = put 3 1 (changing 10 6 ∷ []) ∷ put 21 2 (changing 10 2 ∷ []) ∷ notice 3 1 ∷ notice 5 1 ∷ []
 
-abbrev C : List Step
+abbrev pub C : List Step
 C = six ∷ put 5 1 (changing 10 2 ∷ changing 20 7 ∷ []) ∷ put 19 1 (changing 20 8 ∷ []) ∷ notice 3 2 ∷ notice 5 1 ∷ []
+
+-- ours, beside C: a set of three rows that wins them all
+abbrev pub threeRows : List Step
+threeRows = put 3 1 (changing 10 6 ∷ changing 20 7 ∷ inserting 30 4 ∷ []) ∷ notice 3 1 ∷ notice 5 0 ∷ []
 
 abbrev D : List Step
 D = put 3 1 (changing 10 6 ∷ changing 30 4 ∷ []) ∷ two ∷ notice 3 1 ∷ notice 5 1 ∷ []
@@ -174,8 +178,10 @@ table =
     ∷ joins (two ∷ notice 5 1 ∷ []) (six ∷ notice 3 1 ∷ []) A
     -- B
     ∷ closes (register 1 (row 10 1 0 0 0 ∷ row 20 0 0 0 0 ∷ [])) 2 B (Lost 10 ∷ Commit ∷ []) (register 2 (row 10 2 2 2 21 ∷ row 20 0 0 0 0 ∷ []))
-    -- C
-    ∷ closes R 1 C (Commit ∷ Lost 10 ∷ Lost 20 ∷ []) (register 1 (row 10 6 1 1 3 ∷ row 20 0 1 1 5 ∷ []))
+    -- C: the mark of row 20, which a lost set won, stays fresh
+    ∷ closes R 1 C (Commit ∷ Lost 10 ∷ Lost 20 ∷ []) (register 1 (row 10 6 1 1 3 ∷ row 20 0 0 0 0 ∷ []))
+    -- what commits marks every row that it names
+    ∷ closes R 1 threeRows (Commit ∷ []) (register 1 (row 10 6 1 1 3 ∷ row 20 7 1 1 3 ∷ row 30 4 1 1 3 ∷ []))
     -- D
     ∷ closes R 1 D (Unfit 30 ∷ Commit ∷ []) (register 1 (row 10 2 1 1 5 ∷ row 20 0 0 0 0 ∷ []))
     -- E
@@ -223,4 +229,4 @@ table =
 -- EVERY ENTRY OF THE TABLE HOLDS
 pub every : AllHold table
 unfolding runRefused
-every = (refl, (refl, (refl, (refl, (refl, (refl, (refl, (refl, (refl, (refl, (refl, (refl, (refl, (refl, (refl, (refl, (refl, (refl, (refl, (refl, (refl, (refl, (refl, (refl, (refl, (refl, (refl, (refl, (refl, (refl, (refl, (refl, (refl, (refl, (refl, (refl, (refl, (refl, tt))))))))))))))))))))))))))))))))))))))
+every = (refl, (refl, (refl, (refl, (refl, (refl, (refl, (refl, (refl, (refl, (refl, (refl, (refl, (refl, (refl, (refl, (refl, (refl, (refl, (refl, (refl, (refl, (refl, (refl, (refl, (refl, (refl, (refl, (refl, (refl, (refl, (refl, (refl, (refl, (refl, (refl, (refl, (refl, (refl, tt)))))))))))))))))))))))))))))))))))))))

@@ -7,14 +7,17 @@ pub mod Precedence
 pub mod SheetLaws
 pub mod Examples
 pub mod RegisterLaws
+pub mod RowBytes
 pub mod Rising
 pub mod Distinct
 pub mod Winners
 pub mod Commits
+pub mod Choice
 pub mod Applied
 pub mod NextRows
 pub mod NextSound
 pub mod Whole
+pub mod Marks
 pub mod NextCount
 pub mod VerdictLength
 pub mod Notices

@@ -1,5 +1,5 @@
--- How many rows the next register has: the old ones and the committed inserts, less the committed deletes. So room freed by deletes in
--- an epoch serves that epoch's inserts.
+-- How many rows the next register has, whatever chose the committed sets: the old ones and the committed inserts, less the committed
+-- deletes. So room freed by deletes in an epoch serves that epoch's inserts.
 use Prim.Native.Nat.{ℕ, suc, _+_, _≤_, _<_}
 use mathlib.Core.Path.{_≡_, refl, sym, _∙_, ap}
 use mathlib.Core.Logic.{⊎-elim}
@@ -14,11 +14,12 @@ use Rattle.rules.specs.declared.row.Row.{Row}
 use Rattle.rules.specs.declared.row.Record.{Record}
 use Rattle.rules.specs.Lists.{if_then_else_, keep, flat, count}
 use Rattle.rules.specs.Register.{Register, keyOf, soundRegister}
-use Rattle.rules.specs.Sheet.{Sheet, recordKey, insert, delete, soundSheet}
-use Rattle.rules.specs.Closing.{applied, appliedTo, isDeleted, rowAfter, insertedRow, putRow, putRows, rowsAfter, nextRows}
+use Rattle.rules.specs.Sheet.{WriteSet, Sheet, recordKey, insert, delete, soundSheet}
+use Rattle.rules.specs.Becoming.{applied, appliedTo, isDeleted, rowAfter, insertedRow, putRow, putRows, rowsAfter}
 use Rattle.laws.specs.ListLaws.{Sub, keep→, →keep}
 use Rattle.laws.specs.RegisterLaws.{soundRegister→}
 use Rattle.laws.specs.Rising.{Rising, nil, cons, rising→, rising-keep}
+use Rattle.laws.specs.Choice.{Choice}
 use Rattle.laws.specs.Applied.{OneEach, none-left, one-more, each-keep, applied-each, appliedTo→}
 use Rattle.laws.specs.NextRows.{gone, remains}
 use Rattle.laws.specs.Whole.{names-old, is-deleted}
@@ -81,22 +82,22 @@ unfolding putRows
 puts-length [] qs = omega arith
 puts-length (r ∷ rs) qs = put-length r (putRows rs qs) ∙ ap suc (puts-length rs qs) ∙ omega arith
 
-module _ (g : Register) (s : Sheet) where
+module _ (g : Register) (s : Sheet) (c : List WriteSet) where
   -- the row's key is deleted
   isGone : Row → Bool
-  isGone row = isDeleted (appliedTo (applied g s) row.key)
+  isGone row = isDeleted (appliedTo (applied c) row.key)
 
   -- each old row is gone, or remains
-  split-length : (rows : List Row) → length (flat (rowAfter g s (applied g s)) rows) + length (keep isGone rows) ≡ length rows
+  split-length : (rows : List Row) → length (flat (rowAfter s c) rows) + length (keep isGone rows) ≡ length rows
   unfolding flat keep isGone
   split-length [] = refl
-  split-length (x ∷ xs) = go (isDeleted (appliedTo (applied g s) x.key)) refl (split-length xs)
+  split-length (x ∷ xs) = go (isDeleted (appliedTo (applied c) x.key)) refl (split-length xs)
     where
-      go : (t : Bool) → isDeleted (appliedTo (applied g s) x.key) ≡ t
-          → length (flat (rowAfter g s (applied g s)) xs) + length (keep isGone xs) ≡ length xs
-          → length (flat (rowAfter g s (applied g s)) (x ∷ xs)) + length (if t then x ∷ keep isGone xs else keep isGone xs) ≡ suc (length xs)
-      go true e h = rw (gone g s (applied g s) x e) (omega arith)
-      go false e h = rw (remains g s (applied g s) x e) (omega arith)
+      go : (t : Bool) → isDeleted (appliedTo (applied c) x.key) ≡ t
+          → length (flat (rowAfter s c) xs) + length (keep isGone xs) ≡ length xs
+          → length (flat (rowAfter s c) (x ∷ xs)) + length (if t then x ∷ keep isGone xs else keep isGone xs) ≡ suc (length xs)
+      go true e h = rw (gone s c x e) (omega arith)
+      go false e h = rw (remains s c x e) (omega arith)
 
   isDelete : Record → Bool
   isDelete r = eqb r.kind delete
@@ -104,45 +105,45 @@ module _ (g : Register) (s : Sheet) where
   isInsert : Record → Bool
   isInsert r = eqb r.kind insert
 
-  module _ (soundG : soundRegister g ≡ true) (soundS : soundSheet s ≡ true) where
+  module _ (h : Choice g s c) (soundG : soundRegister g ≡ true) (soundS : soundSheet s ≡ true) where
     -- a row is gone for a delete of its key, and for each delete a row
-    gone-deletes : Sub (map keyOf (keep isGone g.rows)) (map recordKey (keep isDelete (applied g s)))
+    gone-deletes : Sub (map keyOf (keep isGone g.rows)) (map recordKey (keep isDelete (applied c)))
     unfolding isGone isDelete isDeleted
     gone-deletes k m =
         let p = Memᴰ·of-map keyOf (keep isGone g.rows) m in
         let q = keep→ isGone g.rows (p .1) in
-        go (p .0 .key) (appliedTo (applied g s) (p .0 .key)) refl (q .1) (p .2)
+        go (p .0 .key) (appliedTo (applied c) (p .0 .key)) refl (q .1) (p .2)
       where
-        go : (x : ℕ) (o : Option Record) → appliedTo (applied g s) x ≡ o → isDeleted o ≡ true → x ≡ k → List·Memᴰ k (map recordKey (keep isDelete (applied g s)))
-        go x none e d c = absurd (false≢true d)
-        go x (some r) e d c =
-            let f = appliedTo→ (applied g s) x r e in Memᴰ·cast (sym c ∙ sym (f .1)) (Memᴰ·map recordKey (→keep isDelete (f .0) d))
+        go : (x : ℕ) (o : Option Record) → appliedTo (applied c) x ≡ o → isDeleted o ≡ true → x ≡ k → List·Memᴰ k (map recordKey (keep isDelete (applied c)))
+        go x none e d q = absurd (false≢true d)
+        go x (some r) e d q =
+            let f = appliedTo→ (applied c) x r e in Memᴰ·cast (sym q ∙ sym (f .1)) (Memᴰ·map recordKey (→keep isDelete (f .0) d))
 
-    deletes-gone : Sub (map recordKey (keep isDelete (applied g s))) (map keyOf (keep isGone g.rows))
+    deletes-gone : Sub (map recordKey (keep isDelete (applied c))) (map keyOf (keep isGone g.rows))
     unfolding isGone isDelete
     deletes-gone k m =
-        let p = Memᴰ·of-map recordKey (keep isDelete (applied g s)) m in
-        let q = keep→ isDelete (applied g s) (p .1) in
+        let p = Memᴰ·of-map recordKey (keep isDelete (applied c)) m in
+        let q = keep→ isDelete (applied c) (p .1) in
         let e : p .0 .kind ≡ delete = eqb-true (p .0 .kind) delete (q .1) in
-        let o = names-old g s soundS (p .0) (q .0) (λ i. absurd (omega arith)) in
-        let d : isGone (o .0) ≡ true = ap (λ (x : ℕ). isDeleted (appliedTo (applied g s) x)) (o .2) ∙ is-deleted g s soundS (p .0) (q .0) ∙ q .1 in
+        let o = names-old g s c h (p .0) (q .0) (λ i. absurd (omega arith)) in
+        let d : isGone (o .0) ≡ true = ap (λ (x : ℕ). isDeleted (appliedTo (applied c) x)) (o .2) ∙ is-deleted g s c h soundS (p .0) (q .0) ∙ q .1 in
         Memᴰ·cast (sym (p .2) ∙ sym (o .2)) (Memᴰ·map keyOf (→keep isGone (o .1) d))
 
-    as-many : length (keep isGone g.rows) ≡ length (keep isDelete (applied g s))
+    as-many : length (keep isGone g.rows) ≡ length (keep isDelete (applied c))
     as-many =
         let rising = rising→ keyOf 0 g.rows (soundRegister→ g soundG .keys) .0 in
         let a = no-longer (rows-different (rising-keep keyOf isGone rising)) _ gone-deletes in
-        let b = no-longer (records-different (each-keep isDelete (applied-each g s soundS))) _ deletes-gone in
-        let c = length-map (keep isGone g.rows) keyOf in
-        let d = length-map (keep isDelete (applied g s)) recordKey in
+        let b = no-longer (records-different (each-keep isDelete (applied-each g s c h soundS))) _ deletes-gone in
+        let i = length-map (keep isGone g.rows) keyOf in
+        let j = length-map (keep isDelete (applied c)) recordKey in
         omega arith
 
     -- THE NEXT ROWS AND THE DELETES ARE AS MANY AS THE OLD ROWS AND THE INSERTS
-    pub next-count : length (nextRows g s) + count (λ r. eqb r.kind delete) (applied g s) ≡ length g.rows + count (λ r. eqb r.kind insert) (applied g s)
-    unfolding nextRows rowsAfter count isDelete isInsert
+    pub next-count : length (rowsAfter s c g.rows) + count (λ r. eqb r.kind delete) (applied c) ≡ length g.rows + count (λ r. eqb r.kind insert) (applied c)
+    unfolding rowsAfter count isDelete isInsert
     next-count =
-        let a = puts-length (map (insertedRow g s) (keep isInsert (applied g s))) (flat (rowAfter g s (applied g s)) g.rows) in
-        let b = length-map (keep isInsert (applied g s)) (insertedRow g s) in
-        let c = split-length g.rows in
-        let d = as-many in
+        let a = puts-length (map (insertedRow s c) (keep isInsert (applied c))) (flat (rowAfter s c) g.rows) in
+        let b = length-map (keep isInsert (applied c)) (insertedRow s c) in
+        let i = split-length g.rows in
+        let j = as-many in
         omega arith

@@ -1,8 +1,8 @@
--- Lists by their places: members, the first that passes a test from a place on, and numbers that rise.
+-- Lists by their places: members, the first that passes a test from a place on, those that pass, and numbers that rise.
 use Prim.Native.Nat.{ℕ, zero, suc, _+_, _≤_, _<_}
 use mathlib.Core.Path.{_≡_, refl, sym, _∙_, ap}
 use mathlib.Core.Bool.{Bool, true, false}
-use mathlib.Core.List.{List, [], _∷_, List·Memᴰ, List·Memᴰ·head, List·Memᴰ·tail}
+use mathlib.Core.List.{List, [], _∷_, map, List·Memᴰ, List·Memᴰ·head, List·Memᴰ·tail}
 use mathlib.Core.Option.{none, some}
 use native.Mathlib.Nat.{add-zero, add-comm, add-assoc}
 use native.Mathlib.Numerals.{add-one}
@@ -10,7 +10,7 @@ use native.Mathlib.Omega.{arith}
 use borrow.Author.Count.{below-more}
 use lib.ListN.{length, getD, take, drop, set}
 use lib.Seq.{take-all, drop-cons, getD-set-same, getD-set-other}
-use Rattle.rules.specs.Lists.{if_then_else_, keep, first, count}
+use Rattle.rules.specs.Lists.{if_then_else_, keep, first, count, upFrom}
 use Rattle.laws.specs.Rising.{Rising, nil, cons}
 
 module _ {A : Type 0} (d : A) where
@@ -42,6 +42,24 @@ module _ {A : Type 0} (p : A → Bool) (d : A) (xs : List A) (j : ℕ) where
   pub first-end : length xs ≤ j → first p (drop j xs) ≡ none
   unfolding first
   first-end h = ap (first p) (drop-none d xs j h)
+
+-- the elements whose places pass are those that pass, where place and element pass alike
+module _ {A : Type 0} (d : A) (p : A → Bool) (q : ℕ → Bool) (xs : List A) (alike : (i : ℕ) → i < length xs → q i ≡ p (getD xs i d)) where
+  kept-from : (n i : ℕ) → i + n ≡ length xs → map (λ k. getD xs k d) (keep q (upFrom i n)) ≡ keep p (drop i xs)
+  unfolding keep upFrom
+  kept-from zero i e = sym (ap (keep p) (drop-none d xs i (omega arith)))
+  kept-from (suc n) i e = go (p (getD xs i d)) refl (kept-from n (suc i) (omega arith))
+    where
+      h : i < length xs
+      h = omega arith
+
+      go : (t : Bool) → p (getD xs i d) ≡ t → map (λ k. getD xs k d) (keep q (upFrom (suc i) n)) ≡ keep p (drop (suc i) xs)
+          → map (λ k. getD xs k d) (keep q (i ∷ upFrom (suc i) n)) ≡ keep p (drop i xs)
+      go true f r = rw (alike i h ∙ f) (ap (λ (l : List A). getD xs i d ∷ l) r ∙ sym (ap (keep p) (drop-cons xs i d h) ∙ rw f))
+      go false f r = rw (alike i h ∙ f) (r ∙ sym (ap (keep p) (drop-cons xs i d h) ∙ rw f))
+
+  pub kept-places : map (λ k. getD xs k d) (keep q (upFrom 0 (length xs))) ≡ keep p xs
+  kept-places = kept-from (length xs) 0 (omega arith)
 
 -- of rising numbers the later is the larger
 pub rising-at : {A : Type 0} (f : A → ℕ) (d : A) {xs : List A} → Rising f xs → (i j : ℕ) → i < j → j < length xs → f (getD xs i d) < f (getD xs j d)

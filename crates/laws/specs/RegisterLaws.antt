@@ -121,7 +121,7 @@ pub register-length : (g : Register) → length (registerBytes g) ≡ 8 + 28 * l
 unfolding registerBytes
 register-length g = simp (length-append, le-length, rows-length)
 
-head-tail : (x n : ℕ) (rest : Bytes) → drop 8 (le 4 x ++ le 4 n ++ rest) ≡ rest
+pub head-tail : (x n : ℕ) (rest : Bytes) → drop 8 (le 4 x ++ le 4 n ++ rest) ≡ rest
 unfolding le
 head-tail x n rest = refl
 

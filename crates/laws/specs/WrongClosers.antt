@@ -1,17 +1,28 @@
--- WRONG VERSIONS OF CLOSING, each a class of closings, and each rejected by demand 2 on the examples that document 01 names.
+-- WRONG VERSIONS OF CLOSING, each a class of closings, and each rejected by demand 2 on an example: those that document 01 names, and
+-- two ways to mark rows that L1 rules out.
 use Prim.Native.Nat.{ℕ, _+_, _≤_, _<_}
 use mathlib.Core.Path.{_≡_, refl, sym, _∙_, ap}
-use mathlib.Core.List.{List, [], _∷_}
+use mathlib.Core.Bool.{true}
+use mathlib.Core.List.{List, [], _∷_, List·Memᴰ, List·Memᴰ·head, List·Memᴰ·tail}
+use mathlib.Core.Option.{some}
 use native.Mathlib.Omega.{arith}
-use lib.ListN.{length, getD, replicate, length-replicate, getD-replicate}
+use lib.ListN.{length, getD, take, replicate, length-replicate, getD-replicate}
+use lib.Dec.{eqb}
 use Rattle.words.specs.Words.{Bytes}
+use Rattle.rules.specs.declared.mark.Mark.{Mark}
+use Rattle.rules.specs.declared.row.Row.{Row}
+use Rattle.rules.specs.declared.row.Record.{Record}
 use Rattle.rules.specs.declared.answer.Refusal.{Refusal}
 use Rattle.rules.specs.declared.answer.Closed.{Closed}
 use Rattle.rules.specs.declared.answer.Closed.the-variants.{Wrote, Refused}
-use Rattle.rules.specs.Register.{registerBytes}
+use Rattle.rules.specs.Lists.{any}
+use Rattle.rules.specs.Register.{Register, registerBytes, readRegister}
+use Rattle.rules.specs.Sheet.{WriteSet, Sheet, readSheet}
+use Rattle.rules.specs.Closing.{markIn, winner, committed}
 use Rattle.rules.specs.Refused.{Outcome, refused, done, Closing, registerRoom, verdictRoom, closeOutcome, runRefused}
 use Rattle.rules.specs.Promises.{over}
-use Rattle.laws.specs.Examples.{Step, notice, sheetAfter, R, A}
+use Rattle.laws.specs.Examples.{Step, notice, sheetAfter, R, A, C, threeRows}
+use Rattle.laws.specs.Kept.{written}
 use Rattle.laws.specs.Closers.{Left, Closer, writes, Demand2, closes→}
 
 -- REFUSING ALWAYS, with whatever refusal, whatever is left in the buffers
@@ -25,6 +36,28 @@ AnswersAlike c = (a : Closed) × ((r t next verdicts : Bytes) → c r t next ver
 -- DOING NOTHING: both buffers are left as they were, and success is answered, or whatever else
 abbrev pub DoesNothing : Closer → Type 0
 DoesNothing c = (r t next verdicts : Bytes) → (c r t next verdicts .next ≡ next) × (c r t next verdicts .verdicts ≡ verdicts)
+
+-- a row of the register that a closing writes of r and t into these buffers
+pub record WritesRow (c : Closer) (r t next verdicts : Bytes) (x : Row) : Type 0 where
+  pub register-long : ℕ
+  pub verdicts-long : ℕ
+  pub answers : c r t next verdicts .answer ≡ Wrote register-long verdicts-long
+  pub register : Register
+  pub reads : readRegister (take register-long (c r t next verdicts .next)) ≡ some register
+  pub in-it : List·Memᴰ x (register .rows)
+
+-- STAMPING BY LOSERS, the rule before L1: a row that has a winner bears its mark, even if that set lost elsewhere
+abbrev pub LosersStamp : Closer → Type 0
+LosersStamp c =
+    (r t next verdicts : Bytes) (g : Register) (s : Sheet) → readRegister r ≡ some g → readSheet t ≡ some s
+    → (x : Row) (w : WriteSet) → WritesRow c r t next verdicts x → winner g s x.key ≡ some w → x.mark ≡ markIn s w
+
+-- STAMPING ONE ROW A SET: an old row that a committed set names behind its first keeps its mark
+abbrev pub FirstRowStamped : Closer → Type 0
+FirstRowStamped c =
+    (r t next verdicts : Bytes) (g : Register) (s : Sheet) → readRegister r ≡ some g → readSheet t ≡ some s
+    → (row x : Row) (w : WriteSet) (first : Record) (rest : List Record) → List·Memᴰ row g.rows → WritesRow c r t next verdicts x → x.key ≡ row.key
+    → List·Memᴰ w (committed g s) → w.records ≡ first ∷ rest → any (λ r. eqb r.key x.key) rest ≡ true → x.mark ≡ row.mark
 
 -- N: no sets, notices 0
 abbrev pub N : List Step
@@ -131,3 +164,43 @@ nothing-on-A c w h =
 
 pub doing-nothing-fails : (c : Closer) → DoesNothing c → Demand2 c → ⊥
 doing-nothing-fails c w d = rejected c A (nothing-on-A c w) d
+
+-- ---- marks
+
+-- what an example's closing writes, as a row of what a closing that does as asked writes into buffers of zeros
+row-written : (c : Closer) (xs : List Step) (k : Closing) (g : Register) → closeOutcome (registerBytes R) (sheetOf xs) registerRoom verdictRoom ≡ done k
+    → readRegister (k .register) ≡ some g → AsksOn c xs → (x : Row) → List·Memᴰ x (g .rows)
+    → WritesRow c (registerBytes R) (sheetOf xs) (zeros registerRoom) (zeros verdictRoom) x
+row-written c xs k g e q h x m =
+    let l = asked c xs k e h in
+    record {
+      register-long = length k.register;
+      verdicts-long = length k.verdicts;
+      answers = ap (λ (y : Left). y .answer) l;
+      register = g;
+      reads = ap readRegister (sym (written (zeros registerRoom) (k .register) (length k.register) refl (ap (λ (y : Left). y .next) l))) ∙ q;
+      in-it = m;
+    }
+
+-- C's row 20 is won by csn 5, which is lost
+pub losers-on-C : (c : Closer) → LosersStamp c → Rejects c C
+unfolding runRefused
+losers-on-C c w h =
+    let x = row-written c C _ _ refl refl h _ (List·Memᴰ·tail (List·Memᴰ·head refl)) in
+    let z : _≡_ {A = ℕ} 0 1 = ap (λ (m : Mark). m .cen) (w _ _ _ _ _ _ refl refl _ _ x refl) in
+    omega arith
+
+pub losers-stamp-fails : (c : Closer) → LosersStamp c → Demand2 c → ⊥
+losers-stamp-fails c w d = rejected c C (losers-on-C c w) d
+
+-- the second of three rows that a set changes
+pub first-on-three : (c : Closer) → FirstRowStamped c → Rejects c threeRows
+unfolding runRefused
+first-on-three c w h =
+    let x = row-written c threeRows _ _ refl refl h _ (List·Memᴰ·tail (List·Memᴰ·head refl)) in
+    let z : _≡_ {A = ℕ} 1 0 =
+    ap (λ (m : Mark). m .cen) (w _ _ _ _ _ _ refl refl _ _ _ _ _ (List·Memᴰ·tail (List·Memᴰ·head refl)) x refl (List·Memᴰ·head refl) refl refl) in
+    omega arith
+
+pub first-row-stamped-fails : (c : Closer) → FirstRowStamped c → Demand2 c → ⊥
+first-row-stamped-fails c w d = rejected c threeRows (first-on-three c w) d

@@ -25,7 +25,8 @@ use Rattle.rules.specs.Numbers.{masterOf}
 use Rattle.rules.specs.Register.{Register, soundRegister, registerBytes, registerIn, readRegister}
 use Rattle.rules.specs.Sheet.{WriteSet, Sheet, soundSheet, sheetBytes, sheetIn, readSheet, offeredRecords}
 use Rattle.rules.specs.Gathering.{Offer, aSet, aNotice, emptySheet, spoiledSheet, gathered, offersOf, withOffer, joined}
-use Rattle.rules.specs.Closing.{present, markIn, winner, verdict, commits, nextRows, next, verdicts}
+use Rattle.rules.specs.Closing.{present, markIn, winner, verdict, commits, committed, verdicts}
+use Rattle.rules.specs.Becoming.{nextRows, next}
 use Rattle.rules.specs.ReadCheck.{Finding, passes, fails, checkFrom, readsOf}
 use Rattle.rules.specs.Refused.{Outcome, refused, done, Closing, closing, sheetRoom, verdictBytes, openOutcome, putOutcome, noticeOutcome, joinSheets, joinOutcome, offerTo, offeredSet, offeredNotice, closeSheet, closeOutcome, checkReads, readsOutcome, checkOutcome}
 use Rattle.rules.specs.Promises.{Promise, ClosePromise, CheckPromise}
@@ -55,13 +56,16 @@ use Rattle.laws.specs.Exactly as exactly
 use Rattle.laws.specs.Exactly.{entriesOf}
 use Rattle.laws.specs.Kept as kept
 use Rattle.laws.specs.ClosingWrites as writing
-use Rattle.laws.specs.ClosingWrites.{Unclaimed, WholeSet, NoneOfSet, Writes, Gives}
+use Rattle.laws.specs.ClosingWrites.{WholeSet, NoneOfSet, Writes, Gives}
+use Rattle.laws.specs.Marks.{MarkedByWinner}
+use Rattle.laws.specs.RowBytes.{HasRow}
+use Rattle.laws.specs.Choice.{Unnamed}
 use Rattle.laws.specs.Whole.{Absent}
 use Rattle.laws.specs.FirstFailing as reading
 use Rattle.laws.specs.Closers as closers
 use Rattle.laws.specs.Closers.{Closer, Demand2, Keeps}
 use Rattle.laws.specs.WrongClosers as wrong
-use Rattle.laws.specs.WrongClosers.{RefusesAlways, AnswersAlike, DoesNothing, N, Rejects}
+use Rattle.laws.specs.WrongClosers.{RefusesAlways, AnswersAlike, DoesNothing, N, Rejects, LosersStamp, FirstRowStamped}
 use Rattle.laws.specs.Gatherers as gatherers
 use Rattle.laws.specs.Gatherers.{Demand3, alwaysSpoiled, firstOffer, countsDeliveries, exampleA, exampleG, exampleG1}
 use Rattle.laws.specs.Examples as examples
@@ -167,8 +171,8 @@ demand-1 = record {
   refused-closing-writes-nothing = λ o next verdicts next′ verdicts′ x p. let k = kept.kept-refused-closing o p in (k .1, k .2);
 }
 
--- DEMAND 2: closing gives exactly the verdicts and next register of document 01's rule. Sheets and registers read back as written, one
--- encoding each.
+-- DEMAND 2: closing gives exactly the verdicts and next register of document 01's rule, in which a row's mark changes only when its
+-- winner commits (document 02, L1). Sheets and registers read back as written, one encoding each.
 pub record SecondDemand : Type 0 where
   -- Closing that is done gives all that the fields after this one say, of the register and the sheet that its bytes read as.
   pub closing-gives : (r t : Bytes) (n m : ℕ) (c : Closing) → closeOutcome r t n m ≡ done c
@@ -186,14 +190,24 @@ pub record SecondDemand : Type 0 where
   -- a set commits just when it is fit and precedes every other fit set on each of its keys;
   pub commits-just-when : (g : Register) (s : Sheet) (w : WriteSet) → soundSheet s ≡ true → List·Memᴰ w s.sets → Says (commits g s w) (Committed g s w)
   -- each set committed, and every record of it stands, or it did not, and what stands at each of its keys is there by another set that
-  -- committed, or is the old row but for the mark, or is absent as before;
+  -- committed, or is the old row as it stood, mark included, or is absent as before;
   pub whole-or-none : (r t : Bytes) (g : Register) (s : Sheet) (c : Closing) → Gives r t g s c → (w : WriteSet) → List·Memᴰ w s.sets → WholeSet g s w ⊎ NoneOfSet g s w
-  -- a remaining row with a winner bears its mark, even if that set lost elsewhere; rows and absent keys that no set claims stay.
+  -- a row's mark changes only when its winner commits: an old row stands as it stood, or its winner committed and it bears that mark;
+  pub mark-changes : (r t : Bytes) (g : Register) (s : Sheet) (c : Closing) → Gives r t g s c
+      → (row x : Row) → List·Memᴰ row g.rows → List·Memᴰ x (nextRows g s) → x.key ≡ row.key → (x ≡ row) ⊎ MarkedByWinner g s x
+  -- a loser stamps nothing: a row whose winner was lost stands as it stood;
+  pub loser-stamps-nothing : (r t : Bytes) (g : Register) (s : Sheet) (c : Closing) → Gives r t g s c
+      → (row : Row) (w : WriteSet) → List·Memᴰ row g.rows → Wins g s row.key w → commits g s w ≡ false → List·Memᴰ row (nextRows g s)
+  -- a row whose winner committed bears its mark; rows that no committed set names stay as they were, byte for byte, and such absent keys
+  -- stay absent.
   pub winner-marks : (r t : Bytes) (g : Register) (s : Sheet) (c : Closing) → Gives r t g s c
-      → (x : Row) (w : WriteSet) → List·Memᴰ x (nextRows g s) → Wins g s x.key w → x.mark ≡ markIn s w
+      → (x : Row) (w : WriteSet) → List·Memᴰ x (nextRows g s) → Wins g s x.key w → commits g s w ≡ true → x.mark ≡ markIn s w
   pub others-stay : (r t : Bytes) (g : Register) (s : Sheet) (c : Closing) → Gives r t g s c
-      → (row : Row) → List·Memᴰ row g.rows → Unclaimed g s row.key → List·Memᴰ row (nextRows g s)
-  pub absent-stay : (r t : Bytes) (g : Register) (s : Sheet) (c : Closing) → Gives r t g s c → (k : ℕ) → present g k ≡ false → Unclaimed g s k → Absent g s k
+      → (row : Row) → List·Memᴰ row g.rows → Unnamed (committed g s) row.key → List·Memᴰ row (nextRows g s)
+  pub bytes-stay : (r t : Bytes) (g : Register) (s : Sheet) (c : Closing) → Gives r t g s c
+      → (row : Row) → List·Memᴰ row g.rows → Unnamed (committed g s) row.key → HasRow r row × HasRow (c .register) row
+  pub absent-stay : (r t : Bytes) (g : Register) (s : Sheet) (c : Closing) → Gives r t g s c
+      → (k : ℕ) → present g k ≡ false → Unnamed (committed g s) k → Absent (nextRows g s) k
   -- So a call of close that answers success left what closing gives, in the lengths that it answers,
   pub closing-writes : (r t next verdicts : Bytes) (i j : ℕ) → CloseCall r t (closed.Wrote i j) next verdicts
       → (i ≡ length (take i next)) × (j ≡ length (take j verdicts))
@@ -225,8 +239,11 @@ demand-2 = record {
   one-winner = λ r t g s c h. writing.gives-writes r t g s c h .winners;
   commits-just-when = committing.commits-iff;
   whole-or-none = λ r t g s c h. writing.gives-writes r t g s c h .each-set;
+  mark-changes = λ r t g s c h. writing.gives-writes r t g s c h .mark-changes;
+  loser-stamps-nothing = λ r t g s c h. writing.gives-writes r t g s c h .losers;
   winner-marks = λ r t g s c h. writing.gives-writes r t g s c h .marks;
   others-stay = λ r t g s c h. writing.gives-writes r t g s c h .others-stay;
+  bytes-stay = writing.bytes-stay;
   absent-stay = λ r t g s c h. writing.gives-writes r t g s c h .absent-stay;
   closing-writes = λ r t next verdicts i j c. calls.close-writes c;
   closing-refuses = λ r t next verdicts x c. calls.close-refuses c;
@@ -302,7 +319,7 @@ demand-3 = record {
   same-closed = λ t u n m held other p q e f h r next verdicts next′ verdicts′ a b c d x y. calls.depots-alike p q e f h c d x y;
 }
 
--- THE WRONG VERSIONS that document 01 names: each demand, asked of any candidate, rejects them on the examples that it names.
+-- THE WRONG VERSIONS that document 01 names, and two that L1 rules out: each demand, asked of any candidate, rejects them on an example.
 pub record WrongVersions : Type 0 where
   -- Refusing always, or answering always alike: demand 2 rejects both on A and N.
   pub refusing-on-A : (c : Closer) → RefusesAlways c → Rejects c examples.A
@@ -313,6 +330,12 @@ pub record WrongVersions : Type 0 where
   -- Doing nothing: demand 2 on A.
   pub nothing-on-A : (c : Closer) → DoesNothing c → Rejects c examples.A
   pub doing-nothing : (c : Closer) → DoesNothing c → Demand2 c → ⊥
+  -- What L1 rules out, a row marked by a winner that was lost, the rule before it: demand 2 on C;
+  pub losers-on-C : (c : Closer) → LosersStamp c → Rejects c examples.C
+  pub losers-stamp : (c : Closer) → LosersStamp c → Demand2 c → ⊥
+  -- and only the first row of a committed set marked: demand 2 on a set of three rows.
+  pub first-on-three : (c : Closer) → FirstRowStamped c → Rejects c examples.threeRows
+  pub first-row-stamped : (c : Closer) → FirstRowStamped c → Demand2 c → ⊥
   -- Always spoiled: demand 3 on G.
   pub spoiled-on-G : gatherers.AsksOn alwaysSpoiled exampleG → ⊥
   pub always-spoiled : Demand3 alwaysSpoiled → ⊥
@@ -335,6 +358,10 @@ wrong-versions = record {
   answering-alike = wrong.answering-alike-fails;
   nothing-on-A = wrong.nothing-on-A;
   doing-nothing = wrong.doing-nothing-fails;
+  losers-on-C = wrong.losers-on-C;
+  losers-stamp = wrong.losers-stamp-fails;
+  first-on-three = wrong.first-on-three;
+  first-row-stamped = wrong.first-row-stamped-fails;
   spoiled-on-G = gatherers.spoiled-on-G;
   always-spoiled = gatherers.always-spoiled-fails;
   first-offer-on-A = gatherers.first-offer-on-A;

@@ -1,7 +1,7 @@
 -- The next rows written in the order of their keys: `At` says where a walk over old rows and inserts stands, and what one step writes.
 use Prim.Native.Nat.{ℕ, suc, _+_, _≤_, _<_}
 use mathlib.Core.Path.{_≡_, refl, sym, _∙_, ap}
-use mathlib.Core.Logic.{_⊎_, ⊎-elim}
+use mathlib.Core.Logic.{⊎-elim}
 use mathlib.Core.Bool.{Bool, true, false, true≢false}
 use mathlib.Core.List.{List, [], _∷_, _++_, List·Memᴰ, List·Memᴰ·head, List·Memᴰ·not-nil, List·Memᴰ·append-cases, List·Memᴰ·eq-of-singleton, Memᴰ·append-left, Memᴰ·append-right, Memᴰ·cast}
 use mathlib.Core.Option.{some, Option·some-injective}
@@ -15,11 +15,12 @@ use Rattle.rules.specs.declared.row.Record.{Record}
 use Rattle.rules.specs.Lists.{if_then_else_, keep}
 use Rattle.rules.specs.Register.{Register, keyOf, soundRegister}
 use Rattle.rules.specs.Sheet.{WriteSet, Sheet, insert, recordKey, soundSheet}
-use Rattle.rules.specs.Closing.{commits, applied, appliedTo, isDeleted, rowAfter, insertedRow, nextRows}
+use Rattle.rules.specs.Becoming.{applied, appliedTo, isDeleted, rowAfter, insertedRow, rowsAfter}
 use Rattle.laws.specs.ListLaws.{keep→, →keep}
 use Rattle.laws.specs.RegisterLaws.{soundRegister→}
 use Rattle.laws.specs.Distinct.{tri, less, more, equal}
 use Rattle.laws.specs.Rising.{Rising, nil, cons, rising→, rising-unique, rising-keep, rising-append}
+use Rattle.laws.specs.Choice.{Choice}
 use Rattle.laws.specs.Applied.{applied→, applied-each, appliedTo-is}
 use Rattle.laws.specs.NextRows.{gone, remains, key-stays, next→, →next-old, →next-insert, insert-absent, next-rising, next-above}
 use Rattle.registers.specs.RegisterReadings.{rowAt, noRow}
@@ -27,12 +28,12 @@ use Rattle.registers.specs.RowsRise.{larger}
 use Rattle.sheets.specs.SheetReadings.{setAt, recordAt}
 use Rattle.judging.specs.declared.key.FirstKey.{FirstKey}
 use Rattle.judging.specs.declared.key.FirstKey.the-variants.{Key, None}
-use Rattle.judging.specs.Tables.{noneAt, lostKey, Tells}
+use Rattle.judging.specs.Tables.{committedIn}
 use Rattle.judging.specs.Judged.{Inserts, InsertsIn, LeastAbove}
 use Rattle.next_rows.specs.NextRow.{Later}
 use Rattle.laws.specs.Places.{mem-at, at-mem}
-use Rattle.sheets.specs.SheetMembers.{set-number, record-number}
-use Rattle.judging.specs.TableLaws.{commits-told, applied-at}
+use Rattle.sheets.specs.SheetMembers.{record-number}
+use Rattle.judging.specs.TableLaws.{CommitsAt, committedIn→, applied-at}
 
 -- the rows whose keys are at most a
 unfoldable pub upTo : ℕ → List Row → List Row
@@ -124,23 +125,30 @@ still-coming : (P : ℕ → Type 0) (after key : ℕ) (next : FirstKey) → afte
 still-coming P after key None h l c = λ j a p. c j (omega arith) p
 still-coming P after key (Key k) h l c = record { above = l; holds = c .holds; least = λ j a p. c .least j (omega arith) p }
 
-module _ (g : Register) (s : Sheet) (lost : List ℕ) (soundG : soundRegister g ≡ true) (soundS : soundSheet s ≡ true) (t : Tells (lostKey g s) s lost) where
-  -- an applied insert is a new key, and the other way
-  new-key : (r : Record) → List·Memᴰ r (applied g s) → r.kind ≡ insert → New s lost r.key
-  new-key r m e =
-      let a = applied→ g s r m in
-      let u = set-number s (a .in-sheet) in
-      let j = record-number (a .set) (a .in-set) in
-      rw-set (u .0) (u .1) (a .set) (u .2) (commits-told g s lost soundS t (u .0) (u .1) (ap (commits g s) (u .2) ∙ a .committed))
-      (record { number = j .0; within = j .1; is-insert = ap (λ (x : Record). x.kind) (j .2) ∙ e; keyed = ap recordKey (j .2) })
-    where
-      rw-set : (u : ℕ) → u < length s.sets → (w : WriteSet) → setAt s u ≡ w → noneAt lost u ≡ true → Inserts w r.key → New s lost r.key
-      rw-set u h w q z p = record { number = u; within = h; committed = z; inserts = rw (sym q) at p }
+-- the sets that commit by the table, rightly chosen
+module _ (g : Register) (s : Sheet) (lost : List ℕ) (soundG : soundRegister g ≡ true) (soundS : soundSheet s ≡ true) (chosen : Choice g s (committedIn s lost)) where
+  -- them, and the next rows by them
+  abbrev C : List WriteSet
+  C = committedIn s lost
 
-  new-record : (k : ℕ) → New s lost k → (r : Record) × List·Memᴰ r (applied g s) × (r.kind ≡ insert) × (r.key ≡ k)
+  abbrev rows : List Row
+  rows = rowsAfter s C g.rows
+
+  -- an applied insert is a new key, and the other way
+  new-key : (r : Record) → List·Memᴰ r (applied C) → r.kind ≡ insert → New s lost r.key
+  new-key r m e =
+      let a = applied→ C r m in
+      let u = committedIn→ s lost (a .set) (a .committed) in
+      let j = record-number (a .set) (a .in-set) in
+      rw-set (a .set) u (record { number = j .0; within = j .1; is-insert = ap (λ (x : Record). x.kind) (j .2) ∙ e; keyed = ap recordKey (j .2) })
+    where
+      rw-set : (w : WriteSet) → CommitsAt s lost w → Inserts w r.key → New s lost r.key
+      rw-set w u p = record { number = u .number; within = u .within; committed = u .no-key; inserts = rw (sym (u .is-set)) at p }
+
+  new-record : (k : ℕ) → New s lost k → (r : Record) × List·Memᴰ r (applied C) × (r.kind ≡ insert) × (r.key ≡ k)
   new-record k p =
       let q = p .inserts in
-      (recordAt (setAt s (p .number)) (q .number), applied-at g s lost soundS t (p .number) (p .within) (q .number) (p .committed) (q .within), q .is-insert, q .keyed)
+      (recordAt (setAt s (p .number)) (q .number), applied-at s lost (p .number) (q .number) (p .within) (p .committed) (q .within), q .is-insert, q .keyed)
 
   -- the old row that a row of the next register remains of, by its number
   old-number : (row : Row) → List·Memᴰ row g.rows → (u : ℕ) × (u < length g.rows) × (rowAt g u ≡ row)
@@ -151,18 +159,18 @@ module _ (g : Register) (s : Sheet) (lost : List ℕ) (soundG : soundRegister g 
   unfolding rowAt
   old-in u h = at-mem noRow g.rows u h
 
-  after-rising : (row : Row) → Rising keyOf (rowAfter g s (applied g s) row)
-  after-rising row = go (isDeleted (appliedTo (applied g s) row.key)) refl
+  after-rising : (row : Row) → Rising keyOf (rowAfter s C row)
+  after-rising row = go (isDeleted (appliedTo (applied C) row.key)) refl
     where
-      go : (b : Bool) → isDeleted (appliedTo (applied g s) row.key) ≡ b → Rising keyOf (rowAfter g s (applied g s) row)
-      go true e = rw (gone g s (applied g s) row e) nil
-      go false e = rw (remains g s (applied g s) row e) (cons (λ y m. absurd (List·Memᴰ·not-nil m)) nil)
+      go : (b : Bool) → isDeleted (appliedTo (applied C) row.key) ≡ b → Rising keyOf (rowAfter s C row)
+      go true e = rw (gone s C row e) nil
+      go false e = rw (remains s C row e) (cons (λ y m. absurd (List·Memᴰ·not-nil m)) nil)
 
   -- where a row of the next register that is above `after` comes from: an old row to come, or an insert to come
-  module _ (i after : ℕ) (next : FirstKey) (at : At g s lost i after next) (x : Row) (m : List·Memᴰ x (nextRows g s)) (above : after < x.key) where
+  module _ (i after : ℕ) (next : FirstKey) (at : At g s lost i after next) (x : Row) (m : List·Memᴰ x (rows)) (above : after < x.key) where
     pub data From : Type 0 where
-      a-row : (u : ℕ) → i ≤ u → u < length g.rows → x.key ≡ rowAt g u .key → List·Memᴰ x (rowAfter g s (applied g s) (rowAt g u)) → From
-      an-insert : (r : Record) → List·Memᴰ r (applied g s) → r.kind ≡ insert → x ≡ insertedRow g s r → x.key ≡ r.key → (k : ℕ) → next ≡ Key k → k ≤ r.key → From
+      a-row : (u : ℕ) → i ≤ u → u < length g.rows → x.key ≡ rowAt g u .key → List·Memᴰ x (rowAfter s C (rowAt g u)) → From
+      an-insert : (r : Record) → List·Memᴰ r (applied C) → r.kind ≡ insert → x ≡ insertedRow s C r → x.key ≡ r.key → (k : ℕ) → next ≡ Key k → k ≤ r.key → From
 
     from : From
     unfolding insertedRow
@@ -170,18 +178,18 @@ module _ (g : Register) (s : Sheet) (lost : List ℕ) (soundG : soundRegister g 
         ⊎-elim
         (λ q. let u = old-number (q .0) (q .1) in row-from (u .0) (u .1) (rw (sym (u .2)) at (q .2)))
         (λ q. insert-from (q .0) (q .1) (q .2) (q .3) (ap keyOf (q .3)))
-        (next→ g s x m)
+        (next→ g s C x m)
       where
-        row-from : (u : ℕ) → u < length g.rows → List·Memᴰ x (rowAfter g s (applied g s) (rowAt g u)) → From
+        row-from : (u : ℕ) → u < length g.rows → List·Memᴰ x (rowAfter s C (rowAt g u)) → From
         row-from u h k =
-            let c = key-stays g s (applied g s) (rowAt g u) x k in
+            let c = key-stays s C (rowAt g u) x k in
             elim (tri u i) [
               | less l ↦ let b = at .passed u l in absurd (omega arith)
               | equal l ↦ a-row u (omega arith) h c k
               | more l ↦ a-row u (omega arith) h c k
             ]
 
-        insert-from : (r : Record) → List·Memᴰ r (applied g s) → r.kind ≡ insert → x ≡ insertedRow g s r → x.key ≡ r.key → From
+        insert-from : (r : Record) → List·Memᴰ r (applied C) → r.kind ≡ insert → x ≡ insertedRow s C r → x.key ≡ r.key → From
         insert-from r k e p c = let l = at-most (New s lost) after next (at .coming) r.key (omega arith) (new-key r k e) in an-insert r k e p c (l .0) (l .1) (l .2)
 
   -- a row comes next
@@ -198,8 +206,8 @@ module _ (g : Register) (s : Sheet) (lost : List ℕ) (soundG : soundRegister g 
           coming = still-coming (New s lost) after (rowAt g i .key) next (omega arith) before (at .coming);
         }
 
-    old-from : (x : Row) (m : List·Memᴰ x (nextRows g s)) (a : after < x.key) → x.key ≤ rowAt g i .key → From i after next at x m a
-        → List·Memᴰ x (rowAfter g s (applied g s) (rowAt g i))
+    old-from : (x : Row) (m : List·Memᴰ x (rows)) (a : after < x.key) → x.key ≤ rowAt g i .key → From i after next at x m a
+        → List·Memᴰ x (rowAfter s C (rowAt g i))
     old-from x m a b (a-row u l k c q) =
         elim (tri i u) [
           | less j ↦ let d = larger g soundG i u j k in absurd (omega arith)
@@ -208,13 +216,13 @@ module _ (g : Register) (s : Sheet) (lost : List ℕ) (soundG : soundRegister g 
         ]
     old-from x m a b (an-insert r k e p c j q l) = let d : rowAt g i .key < j = rw q at before in absurd (omega arith)
 
-    pub old-written : upTo (rowAt g i .key) (nextRows g s) ≡ upTo after (nextRows g s) ++ rowAfter g s (applied g s) (rowAt g i)
+    pub old-written : upTo (rowAt g i .key) (rows) ≡ upTo after (rows) ++ rowAfter s C (rowAt g i)
     old-written =
         let a = above-after in
-        upTo-more after (rowAt g i .key) (rowAfter g s (applied g s) (rowAt g i)) (next-rising g s soundG soundS) (omega arith) (after-rising (rowAt g i))
+        upTo-more after (rowAt g i .key) (rowAfter s C (rowAt g i)) (next-rising g s C chosen soundG soundS) (omega arith) (after-rising (rowAt g i))
         (λ x m.
-        let c = key-stays g s (applied g s) (rowAt g i) x m in
-        record { in-list = →next-old g s (rowAt g i) x (old-in i h) m; above = omega arith; within = omega arith })
+        let c = key-stays s C (rowAt g i) x m in
+        record { in-list = →next-old g s C (rowAt g i) x (old-in i h) m; above = omega arith; within = omega arith })
         (λ x p. old-from x (p .in-list) (p .above) (p .within) (from i after next at x (p .in-list) (p .above)))
 
   -- an insert comes next
@@ -223,7 +231,7 @@ module _ (g : Register) (s : Sheet) (lost : List ℕ) (soundG : soundRegister g 
     no-row : (u : ℕ) → u < length g.rows → rowAt g u .key ≡ key → ⊥
     no-row u h e =
         let r = new-record key (at .coming .holds) in
-        insert-absent g s (r .0) (r .1) (r .2) (rowAt g u) (old-in u h) (e ∙ sym (r .3))
+        insert-absent g s C chosen (r .0) (r .1) (r .2) (rowAt g u) (old-in u h) (e ∙ sym (r .3))
 
     above-key : (u : ℕ) → i ≤ u → u < length g.rows → key < rowAt g u .key
     above-key u l h =
@@ -240,21 +248,21 @@ module _ (g : Register) (s : Sheet) (lost : List ℕ) (soundG : soundRegister g 
         let a = at .coming .above in
         record { passed = λ u l. let b = at .passed u l in omega arith; to-come = above-key; coming = c }
 
-    pub insert-record : (r : Record) × (appliedTo (applied g s) key ≡ some r)
-        × (upTo key (nextRows g s) ≡ upTo after (nextRows g s) ++ insertedRow g s r ∷ [])
+    pub insert-record : (r : Record) × (appliedTo (applied C) key ≡ some r)
+        × (upTo key (rows) ≡ upTo after (rows) ++ insertedRow s C r ∷ [])
     unfolding insertedRow
     insert-record =
         let r = new-record key (at .coming .holds) in
         let a = at .coming .above in
         let c = r .3 in
-        let is : appliedTo (applied g s) key ≡ some (r .0) = ap (appliedTo (applied g s)) (sym c) ∙ appliedTo-is (applied g s) (r .0) (applied-each g s soundS) (r .1) in (
+        let is : appliedTo (applied C) key ≡ some (r .0) = ap (appliedTo (applied C)) (sym c) ∙ appliedTo-is (applied C) (r .0) (applied-each g s C chosen soundS) (r .1) in (
           r .0,
           is,
-          upTo-more after key (insertedRow g s (r .0) ∷ []) (next-rising g s soundG soundS) (omega arith) (cons (λ y m. absurd (List·Memᴰ·not-nil m)) nil)
+          upTo-more after key (insertedRow s C (r .0) ∷ []) (next-rising g s C chosen soundG soundS) (omega arith) (cons (λ y m. absurd (List·Memᴰ·not-nil m)) nil)
               (λ x m.
               let e = List·Memᴰ·eq-of-singleton m in
               let k = ap keyOf e in
-              record { in-list = Memᴰ·cast e (→next-insert g s (r .0) (r .1) (r .2)); above = omega arith; within = omega arith })
+              record { in-list = Memᴰ·cast e (→next-insert g s C (r .0) (r .1) (r .2)); above = omega arith; within = omega arith })
               (λ x p. List·Memᴰ·head (insert-from (r .0) is x (p .in-list) (p .above) (p .within) (from i after (Key key) at x (p .in-list) (p .above)))),
         )
       where
@@ -262,14 +270,14 @@ module _ (g : Register) (s : Sheet) (lost : List ℕ) (soundG : soundRegister g 
         keyOr0 (Key k) = k
         keyOr0 None = 0
 
-        insert-from : (r : Record) → appliedTo (applied g s) key ≡ some r → (x : Row) (m : List·Memᴰ x (nextRows g s)) (a : after < x.key) → x.key ≤ key → From i after (Key key) at x m a
-            → x ≡ insertedRow g s r
+        insert-from : (r : Record) → appliedTo (applied C) key ≡ some r → (x : Row) (m : List·Memᴰ x (rows)) (a : after < x.key) → x.key ≤ key → From i after (Key key) at x m a
+            → x ≡ insertedRow s C r
         insert-from r is x m a b (a-row u l k c q) = let d = above-key u l k in absurd (omega arith)
         insert-from r is x m a b (an-insert q k e p c j z l) =
             let d : key ≡ j = ap keyOr0 z in
             let same : q.key ≡ key = omega arith in
-            p ∙ ap (insertedRow g s)
-            (Option·some-injective q r (sym (appliedTo-is (applied g s) q (applied-each g s soundS) k) ∙ ap (appliedTo (applied g s)) same ∙ is))
+            p ∙ ap (insertedRow s C)
+            (Option·some-injective q r (sym (appliedTo-is (applied C) q (applied-each g s C chosen soundS) k) ∙ ap (appliedTo (applied C)) same ∙ is))
 
   pub at-start : (next : FirstKey) → LeastAbove (New s lost) 0 next → At g s lost 0 0 next
   at-start next c =
@@ -279,16 +287,16 @@ module _ (g : Register) (s : Sheet) (lost : List ℕ) (soundG : soundRegister g 
         coming = c;
       }
 
-  pub none-written : upTo 0 (nextRows g s) ≡ []
-  none-written = upTo-none (next-rising g s soundG soundS) (next-above g s soundG soundS)
+  pub none-written : upTo 0 (rows) ≡ []
+  none-written = upTo-none (next-rising g s C chosen soundG soundS) (next-above g s C chosen soundG soundS)
 
-  pub all-written : (i after : ℕ) → At g s lost i after None → length g.rows ≤ i → upTo after (nextRows g s) ≡ nextRows g s
-  all-written i after at h = upTo-all after (next-rising g s soundG soundS) (λ x m a. go x m a (from i after None at x m a))
+  pub all-written : (i after : ℕ) → At g s lost i after None → length g.rows ≤ i → upTo after (rows) ≡ rows
+  all-written i after at h = upTo-all after (next-rising g s C chosen soundG soundS) (λ x m a. go x m a (from i after None at x m a))
     where
       isKey : FirstKey → Bool
       isKey (Key k) = true
       isKey None = false
 
-      go : (x : Row) (m : List·Memᴰ x (nextRows g s)) (a : after < x.key) → From i after None at x m a → ⊥
+      go : (x : Row) (m : List·Memᴰ x (rows)) (a : after < x.key) → From i after None at x m a → ⊥
       go x m a (a-row u l k c q) = omega arith
       go x m a (an-insert r k e p c j z l) = true≢false (sym (ap isKey z))

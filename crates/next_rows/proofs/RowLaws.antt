@@ -1,9 +1,9 @@
--- What a row takes and becomes, from the winner and the applied record as code has them, and what is put next.
+-- What a row becomes and which rows are put, from what the committed sets do to a key as code has it, and what is put next.
 use Prim.Native.Nat.{ℕ, _+_, _<_, _≤_}
-use mathlib.Core.Path.{_≡_, refl, sym, _∙_, ap}
+use mathlib.Core.Path.{_≡_, sym, _∙_, ap}
 use mathlib.Core.Bool.{true, false}
 use mathlib.Core.List.{List, [], _∷_}
-use mathlib.Core.Option.{Option, none, some}
+use mathlib.Core.Option.{some}
 use native.Mathlib.Omega.{arith}
 use borrow.Author.Tests.{eq-eqb, ne-eqb}
 use lib.ListN.{length}
@@ -11,10 +11,13 @@ use Rattle.words.specs.Words.{Bytes}
 use Rattle.rules.specs.declared.mark.Mark.{Mark}
 use Rattle.rules.specs.declared.row.Row.{Row}
 use Rattle.rules.specs.declared.row.Record.{Record}
-use Rattle.rules.specs.Numbers.{untouched}
+use Rattle.rules.specs.Numbers.{fresh}
 use Rattle.rules.specs.Register.{Register, soundRegister}
 use Rattle.rules.specs.Sheet.{WriteSet, Sheet, insert, delete, soundSheet}
-use Rattle.rules.specs.Closing.{winner, markBy, markAfter, applied, appliedTo, valueBy, isDeleted, rowAfter, insertedRow, nextRows}
+use Rattle.rules.specs.Closing.{markIn}
+use Rattle.rules.specs.Becoming.{applied, valueBy, isDeleted, committedOn, markBy, markAfter, rowAfter, insertedRow, rowsAfter}
+use Rattle.laws.specs.Choice.{Choice}
+use Rattle.laws.specs.Applied.{appliedTo→}
 use Rattle.laws.specs.NextRows.{gone, remains}
 use Rattle.laws.specs.NextCount.{next-count}
 use Rattle.laws.specs.Says.{Says, is-lt, _also_, clash}
@@ -22,89 +25,49 @@ use Rattle.registers.specs.declared.writing.Draft.{Draft}
 use Rattle.registers.specs.RegisterReadings.{rowAt}
 use Rattle.registers.specs.RegisterWriting.{RowsFit, RowsAdded}
 use Rattle.registers.specs.RegisterWritten.{none-added}
+use Rattle.judging.specs.declared.effect.Effect.{Effect}
+use Rattle.judging.specs.declared.effect.Effect.the-variants.{Write, Nothing}
 use Rattle.judging.specs.declared.key.FirstKey.{FirstKey}
 use Rattle.judging.specs.declared.key.FirstKey.the-variants.{Key, None}
-use Rattle.judging.specs.declared.recorded.Recorded.{Recorded}
-use Rattle.judging.specs.declared.recorded.Recorded.the-variants.{As, Nowhere}
-use Rattle.judging.specs.declared.lead.Winner.{Winner}
-use Rattle.judging.specs.declared.lead.Winner.the-variants.{By, Nobody}
-use Rattle.judging.specs.Answers.{recorded, winnerOf}
+use Rattle.judging.specs.Answers.{AppliesTo}
 use Rattle.judging.specs.Judged.{ofKind}
 use Rattle.next_rows.specs.declared.becoming.Fate.{Fate}
 use Rattle.next_rows.specs.declared.becoming.Fate.the-variants.{Stays, Gone}
 use Rattle.next_rows.specs.declared.rows.Turn.{Turn}
 use Rattle.next_rows.specs.declared.rows.Turn.the-variants.{Old, Insert}
-use Rattle.next_rows.specs.NextRow.{stamped, rowsOf, insertedRows, rowBefore, IsNext}
+use Rattle.next_rows.specs.NextRow.{written, rowsOf, insertedRows, rowBefore, IsNext}
 
--- ---- the mark
+-- ---- what the committed sets do to a row
 
--- the mark that a winner gives, or else the old one
-markOr : Winner → Mark → Mark
-markOr (By m) old = m
-markOr Nobody old = old
+module _ (s : Sheet) (c : List WriteSet) where
+  -- where a committed set writes, its mark stands, whatever stood before
+  mark-is : (k : ℕ) (old : Mark) {m : Mark} → (w : WriteSet) × (committedOn c k ≡ some w) × (m ≡ markIn s w) → markAfter s c k old ≡ m
+  unfolding markAfter markBy
+  mark-is k old p = ap (markBy s old) (p .1) ∙ sym (p .2)
 
-mark-by : (s : Sheet) (old : Mark) (o : Option WriteSet) → markOr (winnerOf s o) old ≡ markBy s old o
-unfolding winnerOf markBy markOr
-mark-by s old none = refl
-mark-by s old (some w) = refl
+  module _ (row : Row) {e : Effect} (a : AppliesTo s c row.key e) where
+    pub row-gone : {r : Record} {m : Mark} → e ≡ Write r m → r.kind ≡ delete → rowsOf Gone ≡ rowAfter s c row
+    unfolding isDeleted
+    row-gone {r} {m} q k =
+        let w : AppliesTo s c row.key (Write r m) = rw q at a in
+        sym (gone s c row (ap isDeleted (w .0) ∙ eq-eqb r.kind delete k))
 
-module _ (g : Register) (s : Sheet) (row : Row) {w : Winner} (e : w ≡ winnerOf s (winner g s row.key)) where
-  mark-is : markOr w row.mark ≡ markAfter g s row.key row.mark
-  unfolding markAfter
-  mark-is = ap (λ (v : Winner). markOr v row.mark) e ∙ mark-by s row.mark (winner g s row.key)
+    pub row-changed : {r : Record} {m : Mark} → e ≡ Write r m → (r.kind ≡ delete → ⊥)
+        → rowsOf (Stays (record { key = row.key; value = r.value; mark = m })) ≡ rowAfter s c row
+    unfolding isDeleted valueBy
+    row-changed {r} {m} q k =
+        let w : AppliesTo s c row.key (Write r m) = rw q at a in
+        sym
+        (remains s c row (ap isDeleted (w .0) ∙ ne-eqb r.kind delete k)
+        ∙ (λ i. record { key = row.key; value = valueBy (w .0 i) row.value; mark = mark-is row.key row.mark (w .1) i } ∷ []))
 
-  pub stamped-won : {m : Mark} → w ≡ By m → _≡_ {A = Row} (record { key = row.key; value = row.value; mark = m }) (stamped g s row)
-  unfolding stamped markOr
-  stamped-won q = λ i. record { key = row.key; value = row.value; mark = (sym (ap (λ (v : Winner). markOr v row.mark) q) ∙ mark-is) i }
-
-  pub stamped-kept : w ≡ Nobody → row ≡ stamped g s row
-  unfolding stamped markOr
-  stamped-kept q = λ i. record { key = row.key; value = row.value; mark = (sym (ap (λ (v : Winner). markOr v row.mark) q) ∙ mark-is) i }
-
-pub inserted-is : (g : Register) (s : Sheet) (r : Record) {u x : Row} → u ≡ untouched r.key r.value → x ≡ stamped g s u → x ≡ insertedRow g s r
-unfolding stamped insertedRow
-inserted-is g s r p q = q ∙ ap (stamped g s) p
-
--- ---- the applied record
-
--- the record, if there is one
-recordOf : Recorded → Option Record
-recordOf (As r) = some r
-recordOf Nowhere = none
-
-recorded-back : (o : Option Record) → recordOf (recorded o) ≡ o
-unfolding recorded recordOf
-recorded-back none = refl
-recorded-back (some r) = refl
-
-pub as-record : {a : Recorded} {o : Option Record} {r : Record} → a ≡ recorded o → a ≡ As r → o ≡ some r
-unfolding recordOf
-as-record {o = o} p q = sym (recorded-back o) ∙ ap recordOf (sym p ∙ q)
-
-pub no-record : {a : Recorded} {o : Option Record} → a ≡ recorded o → a ≡ Nowhere → o ≡ none
-unfolding recordOf
-no-record {o = o} p q = sym (recorded-back o) ∙ ap recordOf (sym p ∙ q)
-
-module _ (g : Register) (s : Sheet) (row : Row) {a : Recorded} (e : a ≡ recorded (appliedTo (applied g s) row.key)) where
-  pub row-gone : {r : Record} → a ≡ As r → r.kind ≡ delete → rowsOf Gone ≡ rowAfter g s (applied g s) row
-  unfolding isDeleted
-  row-gone {r} q k = sym (gone g s (applied g s) row (ap isDeleted (as-record e q) ∙ eq-eqb r.kind delete k))
-
-  stays : {o : Option Record} → appliedTo (applied g s) row.key ≡ o → isDeleted o ≡ false → {x : Row}
-      → x ≡ stamped g s (record { key = row.key; value = valueBy o row.value; mark = row.mark }) → rowsOf (Stays x) ≡ rowAfter g s (applied g s) row
-  unfolding stamped
-  stays {o} p d {x} q =
-      ap (λ (y : Row). y ∷ []) (q ∙ (λ i. record { key = row.key; value = valueBy (sym p i) row.value; mark = markAfter g s row.key row.mark }))
-      ∙ sym (remains g s (applied g s) row (ap isDeleted p ∙ d))
-
-  pub row-changed : {r : Record} → a ≡ As r → (r.kind ≡ delete → ⊥) → {x : Row} → x ≡ stamped g s (record { key = row.key; value = r.value; mark = row.mark })
-      → rowsOf (Stays x) ≡ rowAfter g s (applied g s) row
-  unfolding isDeleted valueBy
-  row-changed {r} q k p = stays (as-record e q) (ne-eqb r.kind delete k) p
-
-  pub row-kept : a ≡ Nowhere → {x : Row} → x ≡ stamped g s row → rowsOf (Stays x) ≡ rowAfter g s (applied g s) row
-  unfolding isDeleted valueBy
-  row-kept q p = stays (no-record e q) refl p
+    pub row-kept : e ≡ Nothing → rowsOf (Stays row) ≡ rowAfter s c row
+    unfolding isDeleted valueBy markAfter markBy
+    row-kept q =
+        let w : AppliesTo s c row.key Nothing = rw q at a in
+        sym
+        (remains s c row (ap isDeleted (w .0))
+        ∙ (λ i. record { key = row.key; value = valueBy (w .0 i) row.value; mark = markBy s row.mark (w .1 i) } ∷ []))
 
 -- ---- what is put of it
 
@@ -118,12 +81,17 @@ module _ {d : Draft} {l : Bytes} where
   pub gone-added : {f : Fate} {rows : List Row} → f ≡ Gone → rowsOf f ≡ rows → RowsAdded rows d l d l
   gone-added p q = rw (sym (sym (ap rowsOf p) ∙ q)) none-added
 
-  pub insert-added : (g : Register) (s : Sheet) (o : Option Record) {e : Draft} {m : Bytes} {a : Recorded} {r : Record} → a ≡ recorded o → a ≡ As r → {x : Row} → x ≡ insertedRow g s r
-      → RowsAdded (x ∷ []) d l e m → RowsAdded (insertedRows g s o) d l e m
-  insert-added g s o p q w h = rw (as-record p q) (rw w at h)
+  pub insert-added : (s : Sheet) (c : List WriteSet) (k : ℕ) {e : Draft} {n : Bytes} {a : Effect} {r : Record} {m : Mark} → AppliesTo s c k a → a ≡ Write r m → {x : Row} → x ≡ written r m
+      → RowsAdded (x ∷ []) d l e n → RowsAdded (insertedRows s c k) d l e n
+  unfolding insertedRow
+  insert-added s c k {r = r} {m = m} p q w h =
+      let a : AppliesTo s c k (Write r m) = rw q at p in
+      let is-key : r.key ≡ k = appliedTo→ (applied c) k r (a .0) .1 in
+      let marked : markAfter s c r.key fresh ≡ m = ap (λ (j : ℕ). markAfter s c j fresh) is-key ∙ mark-is s c k fresh (a .1) in
+      rw (a .0) (rw (w ∙ (λ i. record { key = r.key; value = r.value; mark = sym marked i })) at h)
 
-  pub none-inserted : (g : Register) (s : Sheet) (o : Option Record) {a : Recorded} → a ≡ recorded o → a ≡ Nowhere → RowsAdded (insertedRows g s o) d l d l
-  none-inserted g s o p q = rw (no-record p q) none-added
+  pub none-inserted : (s : Sheet) (c : List WriteSet) (k : ℕ) {a : Effect} → AppliesTo s c k a → a ≡ Nothing → RowsAdded (insertedRows s c k) d l d l
+  none-inserted s c k p q = let a : AppliesTo s c k Nothing = rw q at p in rw (a .0) none-added
 
 -- ---- what is put next
 
@@ -150,7 +118,7 @@ module _ (g : Register) (i : ℕ) (next : FirstKey) where
 
 -- ---- how many rows there are
 
-pub counted : (g : Register) (s : Sheet) → soundRegister g ≡ true → soundSheet s ≡ true
-    → length (nextRows g s) + ofKind delete (applied g s) ≡ length g.rows + ofKind insert (applied g s)
+pub counted : (g : Register) (s : Sheet) (c : List WriteSet) → Choice g s c → soundRegister g ≡ true → soundSheet s ≡ true
+    → length (rowsAfter s c g.rows) + ofKind delete (applied c) ≡ length g.rows + ofKind insert (applied c)
 unfolding ofKind
-counted g s a b = next-count g s a b
+counted g s c h a b = next-count g s c h a b

@@ -1,1 +1,2 @@
 pub mod NextRow
+pub mod ByTables

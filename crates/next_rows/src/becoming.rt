@@ -1,18 +1,17 @@
-// What closing makes of a row: the value and the mark that it takes, or that it is gone; and the row that an insert makes.
-use judging::Recorded;
-use judging::Winner;
+// What closing makes of a row: the value and the mark that it takes by the committed set that names it, or that it is gone; and the row
+// that an insert makes. Only a set that commits leaves a mark.
+use judging::Effect;
 use judging::applied;
-use judging::winner;
+use rules::Mark;
 use rules::Record;
 use rules::Row;
 ghost use mathlib.Core.Path.{_≡_};
 ghost use mathlib.Core.Bool.{true};
 ghost use lib.ListN.{length};
-ghost use Rattle.rules.specs.Register.{Register};
 ghost use Rattle.rules.specs.Sheet.{maxSets, isSheet, sheetIn};
-ghost use Rattle.rules.specs.Closing.{applied, rowAfter, insertedRow};
-ghost use Rattle.judging.specs.Tables.{wrongKey, lostKey, Tells};
-ghost use Rattle.next_rows.specs.NextRow.{stamped, rowsOf};
+ghost use Rattle.rules.specs.Becoming.{rowAfter};
+ghost use Rattle.judging.specs.Tables.{committedIn};
+ghost use Rattle.next_rows.specs.NextRow.{written, rowsOf};
 
 // The fate of an old row.
 pub enum Fate {
@@ -20,47 +19,30 @@ pub enum Fate {
     Gone,
 }
 
-// WHICH MARK A ROW TAKES: its winner's, even if that set lost elsewhere; without a winner it keeps its own.
-fn stamped(sheet: &[u8], wrong: &[u32], row: Row) -> Row
-    requires { ⌜ (isSheet (now sheet) ≡ true) × (length (now wrong) ≡ maxSets) ⌝ }
-    ensures { λ r. ⌜ ((g : Register) → Tells (wrongKey g) (sheetIn (now (sheet .entry))) (now (wrong .entry)) → r ≡ stamped g (sheetIn (now (sheet .entry))) row) ⌝ }
-{
-    match winner(sheet, wrong, row.key) {
-        Winner::By(mark) => Row {
-            key: row.key,
-            value: row.value,
-            mark,
-        },
-        Winner::Nobody => row,
-    }
-}
-
-// A row of the old register: deleted, changed, or not touched by a committed set.
-pub fn becomes(sheet: &[u8], wrong: &[u32], lost: &[u32], old: Row) -> Fate
-    requires { ⌜ (isSheet (now sheet) ≡ true) × (length (now wrong) ≡ maxSets) × (length (now lost) ≡ maxSets) ⌝ }
-    ensures { λ r. ⌜ ((g : Register) → Tells (wrongKey g) (sheetIn (now (sheet .entry))) (now (wrong .entry)) → Tells (lostKey g (sheetIn (now (sheet .entry)))) (sheetIn (now (sheet .entry))) (now (lost .entry)) → rowsOf r ≡ rowAfter g (sheetIn (now (sheet .entry))) (applied g (sheetIn (now (sheet .entry)))) old) ⌝ }
+// A row of the old register: deleted, changed and marked, or as it stood where no committed set names it.
+pub fn becomes(sheet: &[u8], lost: &[u32], old: Row) -> Fate
+    requires { ⌜ (isSheet (now sheet) ≡ true) × (length (now lost) ≡ maxSets) ⌝ }
+    ensures { λ r. ⌜ rowsOf r ≡ rowAfter (sheetIn (now (sheet .entry))) (committedIn (sheetIn (now (sheet .entry))) (now (lost .entry))) old ⌝ }
 {
     match applied(sheet, lost, old.key) {
-        Recorded::As(change) => {
-            if change.kind == Record::DELETE {
+        Effect::Write { record, mark } => {
+            if record.kind == Record::DELETE {
                 return Fate::Gone;
             }
-            let mark = old.mark;
-            let changed = Row {
-                key: old.key,
-                value: change.value,
-                mark,
-            };
-            Fate::Stays(stamped(sheet, wrong, changed))
+            let mut row = old;
+            row.value = record.value;
+            row.mark = mark;
+            Fate::Stays(row)
         }
-        Recorded::Nowhere => Fate::Stays(stamped(sheet, wrong, old)),
+        Effect::Nothing => Fate::Stays(old),
     }
 }
 
-// The row of an insert is drawn up as one that no epoch has touched, and takes its mark as any row does.
-pub fn inserted(sheet: &[u8], wrong: &[u32], insert: Record) -> Row
-    requires { ⌜ (isSheet (now sheet) ≡ true) × (length (now wrong) ≡ maxSets) ⌝ }
-    ensures { λ r. ⌜ ((g : Register) → Tells (wrongKey g) (sheetIn (now (sheet .entry))) (now (wrong .entry)) → r ≡ insertedRow g (sheetIn (now (sheet .entry))) insert) ⌝ }
+// The row of an insert is drawn up as one that no epoch has touched; the set that commits it then marks it.
+pub fn inserted(insert: Record, mark: Mark) -> Row
+    ensures { λ r. ⌜ r ≡ written insert mark ⌝ }
 {
-    stamped(sheet, wrong, Row::untouched(insert.key, insert.value))
+    let mut drawn = Row::untouched(insert.key, insert.value);
+    drawn.mark = mark;
+    drawn
 }

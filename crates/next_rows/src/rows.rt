@@ -7,8 +7,8 @@ use forms::put_row;
 use forms::row;
 use forms::row_count;
 use forms::row_key;
+use judging::Effect;
 use judging::FirstKey;
-use judging::Recorded;
 use judging::applied;
 use judging::applied_count;
 use judging::next_insert;
@@ -17,18 +17,16 @@ ghost use mathlib.Core.Path.{_≡_};
 ghost use mathlib.Core.Bool.{true};
 ghost use Prim.Native.Nat.{_<_};
 ghost use lib.ListN.{length};
-ghost use Rattle.rules.specs.Register.{Register, isRegister, registerIn};
+ghost use Rattle.rules.specs.Register.{isRegister, registerIn};
 ghost use Rattle.rules.specs.Sheet.{maxSets, isSheet, sheetIn};
-ghost use Rattle.rules.specs.Closing.{applied, appliedTo, nextRows};
 ghost use Rattle.registers.specs.RegisterWriting.{RowsFit, RowsAdded};
-ghost use Rattle.judging.specs.Tables.{wrongKey, lostKey, Tells};
-ghost use Rattle.judging.specs.Judged.{Judged};
-ghost use Rattle.next_rows.specs.NextRow.{insertedRows, becomes, rowBefore, IsNext};
+ghost use Rattle.judging.specs.Tables.{committedIn};
+ghost use Rattle.next_rows.specs.NextRow.{Committing, rowsNext, insertedRows, becomes, rowBefore, IsNext};
 
 // How many rows the next register has: the old ones and the inserts, less the deletes.
-pub fn next_count(register: &[u8], sheet: &[u8], wrong: &[u32], lost: &[u32]) -> usize
-    requires { ⌜ Judged (now register) (now sheet) (now wrong) (now lost) ⌝ }
-    ensures { λ r. ⌜ r ≡ length (nextRows (registerIn (now (register .entry))) (sheetIn (now (sheet .entry)))) ⌝ }
+pub fn next_count(register: &[u8], sheet: &[u8], lost: &[u32]) -> usize
+    requires { ⌜ Committing (now register) (now sheet) (now lost) ⌝ }
+    ensures { λ r. ⌜ r ≡ length (rowsNext (now (register .entry)) (now (sheet .entry)) (now (lost .entry))) ⌝ }
 {
     row_count(register) + applied_count(sheet, lost, Record::INSERT)
         - applied_count(sheet, lost, Record::DELETE)
@@ -39,35 +37,27 @@ fn put_old(
     register: &[u8],
     i: usize,
     sheet: &[u8],
-    wrong: &[u32],
     lost: &[u32],
     next: &mut [u8],
     d: Draft,
 ) -> Draft
-    requires { ⌜ (Judged (now register) (now sheet) (now wrong) (now lost)) × (i < length (registerIn (now register) .rows)) × RowsFit d (length (becomes (now register) (now sheet) i)) (now next) ⌝ }
-    ensures { λ e. ⌜ RowsAdded (becomes (now (register .entry)) (now (sheet .entry)) i) d (now (next .entry)) e (now (next .exit)) ⌝ }
+    requires { ⌜ (Committing (now register) (now sheet) (now lost)) × (i < length (registerIn (now register) .rows)) × RowsFit d (length (becomes (now register) (now sheet) (now lost) i)) (now next) ⌝ }
+    ensures { λ e. ⌜ RowsAdded (becomes (now (register .entry)) (now (sheet .entry)) (now (lost .entry)) i) d (now (next .entry)) e (now (next .exit)) ⌝ }
 {
-    match becomes(sheet, wrong, lost, row(register, i)) {
+    match becomes(sheet, lost, row(register, i)) {
         Fate::Stays(r) => put_row(next, d, r),
         Fate::Gone => d,
     }
 }
 
 // The row of the committed insert of a key, if there is one.
-fn put_insert(
-    sheet: &[u8],
-    wrong: &[u32],
-    lost: &[u32],
-    key: u32,
-    next: &mut [u8],
-    d: Draft,
-) -> Draft
-    requires { ⌜ (isSheet (now sheet) ≡ true) × (length (now wrong) ≡ maxSets) × (length (now lost) ≡ maxSets) × RowsFit d 1 (now next) ⌝ }
-    ensures { λ e. ⌜ ((g : Register) → Tells (wrongKey g) (sheetIn (now (sheet .entry))) (now (wrong .entry)) → Tells (lostKey g (sheetIn (now (sheet .entry)))) (sheetIn (now (sheet .entry))) (now (lost .entry)) → RowsAdded (insertedRows g (sheetIn (now (sheet .entry))) (appliedTo (applied g (sheetIn (now (sheet .entry)))) key)) d (now (next .entry)) e (now (next .exit))) ⌝ }
+fn put_insert(sheet: &[u8], lost: &[u32], key: u32, next: &mut [u8], d: Draft) -> Draft
+    requires { ⌜ (isSheet (now sheet) ≡ true) × (length (now lost) ≡ maxSets) × RowsFit d 1 (now next) ⌝ }
+    ensures { λ e. ⌜ RowsAdded (insertedRows (sheetIn (now (sheet .entry))) (committedIn (sheetIn (now (sheet .entry))) (now (lost .entry))) key) d (now (next .entry)) e (now (next .exit)) ⌝ }
 {
     match applied(sheet, lost, key) {
-        Recorded::As(insert) => put_row(next, d, inserted(sheet, wrong, insert)),
-        Recorded::Nowhere => d,
+        Effect::Write { record, mark } => put_row(next, d, inserted(record, mark)),
+        Effect::Nothing => d,
     }
 }
 
@@ -114,16 +104,9 @@ fn next_turn(register: &[u8], i: usize, insert: FirstKey) -> Turn
 }
 
 // All rows, behind those of the draft.
-pub fn put_rows(
-    register: &[u8],
-    sheet: &[u8],
-    wrong: &[u32],
-    lost: &[u32],
-    next: &mut [u8],
-    begun: Draft,
-) -> Draft
-    requires { ⌜ (Judged (now register) (now sheet) (now wrong) (now lost)) × RowsFit begun (length (nextRows (registerIn (now register)) (sheetIn (now sheet)))) (now next) ⌝ }
-    ensures { λ e. ⌜ RowsAdded (nextRows (registerIn (now (register .entry))) (sheetIn (now (sheet .entry)))) begun (now (next .entry)) e (now (next .exit)) ⌝ }
+pub fn put_rows(register: &[u8], sheet: &[u8], lost: &[u32], next: &mut [u8], begun: Draft) -> Draft
+    requires { ⌜ (Committing (now register) (now sheet) (now lost)) × RowsFit begun (length (rowsNext (now register) (now sheet) (now lost))) (now next) ⌝ }
+    ensures { λ e. ⌜ RowsAdded (rowsNext (now (register .entry)) (now (sheet .entry)) (now (lost .entry))) begun (now (next .entry)) e (now (next .exit)) ⌝ }
 {
     let mut d = begun;
     let mut i: usize = 0;
@@ -131,11 +114,11 @@ pub fn put_rows(
     loop {
         match next_turn(register, i, insert) {
             Turn::Old => {
-                d = put_old(register, i, sheet, wrong, lost, next, d);
+                d = put_old(register, i, sheet, lost, next, d);
                 i += 1;
             }
             Turn::Insert(key) => {
-                d = put_insert(sheet, wrong, lost, key, next, d);
+                d = put_insert(sheet, lost, key, next, d);
                 insert = next_insert(sheet, lost, key);
             }
             Turn::End => {

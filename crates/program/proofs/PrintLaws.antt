@@ -14,7 +14,8 @@ use Rattle.rules.specs.declared.answer.Closed.the-variants as closed
 use Rattle.rules.specs.Lists.{flat}
 use Rattle.rules.specs.Register.{Register, registerBytes, registerIn, isRegister}
 use Rattle.rules.specs.Sheet.{Sheet, soundSheet, sheetIn, isSheet, csnOf}
-use Rattle.rules.specs.Closing.{verdict, next, verdicts}
+use Rattle.rules.specs.Closing.{verdict, verdicts}
+use Rattle.rules.specs.Becoming.{next}
 use Rattle.rules.specs.Answers.{refusalNumber, closedNumbers}
 use Rattle.rules.specs.Refused.{Closing, closing, registerRoom, verdictRoom, verdictBytes, closeOutcome}
 use Rattle.rules.specs.Promises.{ClosePromise}

@@ -6,7 +6,8 @@ use mathlib.Core.List.{map}
 use Rattle.words.specs.Words.{Bytes}
 use Rattle.rules.specs.Register.{Register, registerIn, isRegister}
 use Rattle.rules.specs.Sheet.{Sheet, csnOf, sheetIn, isSheet}
-use Rattle.rules.specs.Closing.{next, verdicts}
+use Rattle.rules.specs.Closing.{verdicts}
+use Rattle.rules.specs.Becoming.{next}
 use Rattle.rules.specs.Refused.{Outcome, refused, done, Closing, registerRoom, verdictRoom, closeOutcome}
 use Rattle.report.specs.Report.{Put, report, refusedText}
 use Rattle.input.specs.Reading.{Early}

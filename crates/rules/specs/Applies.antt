@@ -15,7 +15,7 @@ use Rattle.rules.specs.Lists.{_and_, _or_, any}
 use Rattle.rules.specs.Numbers.{masterOf}
 use Rattle.rules.specs.Register.{maxRows, registerIn, isRegister}
 use Rattle.rules.specs.Sheet.{Sheet, noNotice, maxSets, masters, inRoster, setsOf, sheetIn, isSheet, areRecords}
-use Rattle.rules.specs.Closing.{next}
+use Rattle.rules.specs.Becoming.{next}
 use Rattle.rules.specs.ReadCheck.{readCommitted, repeatableRead, snapshotIsolation}
 use Rattle.rules.specs.Answers.{refusalNumber}
 use Rattle.rules.specs.Refused.{Outcome, refused, done, sheetRoom, registerRoom, verdictRoom, maxReads, runRefused}

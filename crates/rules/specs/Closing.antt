@@ -1,19 +1,18 @@
--- Document 01, 'Closing': which sets are fit, who wins each key, the verdicts, and the next register.
-use Prim.Native.Nat.{ℕ, _+_}
+-- Document 01, 'Closing': which sets are fit, who wins each key, the verdicts, and who commits.
+use Prim.Native.Nat.{ℕ}
 use mathlib.Core.Bool.{Bool, true, false, not}
-use mathlib.Core.List.{List, [], _∷_, map}
+use mathlib.Core.List.{List, map}
 use mathlib.Core.Option.{Option, none, some}
 use lib.ListN.{getD}
-use lib.Dec.{ltb, leb, eqb}
+use lib.Dec.{leb, eqb}
 use Rattle.rules.specs.declared.mark.Mark.{Mark}
-use Rattle.rules.specs.declared.row.Row.{Row}
 use Rattle.rules.specs.declared.row.Record.{Record}
 use Rattle.rules.specs.declared.answer.Verdict.{Verdict}
 use Rattle.rules.specs.declared.answer.Verdict.the-variants.{Commit, Lost, Unfit}
-use Rattle.rules.specs.Lists.{_and_, _or_, if_then_else_, all, any, keep, first, flat}
-use Rattle.rules.specs.Numbers.{markOf, fresh, precedes}
+use Rattle.rules.specs.Lists.{_and_, _or_, if_then_else_, all, any, keep, first}
+use Rattle.rules.specs.Numbers.{markOf, precedes}
 use Rattle.rules.specs.Register.{runRegister, Register}
-use Rattle.rules.specs.Sheet.{runSheet, WriteSet, Sheet, noNotice, insert, delete, masters, inRoster, setsOf}
+use Rattle.rules.specs.Sheet.{runSheet, WriteSet, Sheet, noNotice, insert, masters, inRoster, setsOf}
 
 -- a master has a notice, and as many sets as it says
 unfoldable pub sent : Sheet → ℕ → Bool
@@ -96,64 +95,9 @@ isCommit (Unfit k) = false
 unfoldable pub commits : Register → Sheet → WriteSet → Bool
 commits g s w = isCommit (verdict g s w)
 
--- the winner's mark, or the old one where there is no winner
-unfoldable pub markBy : Sheet → Mark → Option WriteSet → Mark
-markBy s old none = old
-markBy s old (some w) = markIn s w
-
--- WHICH MARK A REMAINING ROW TAKES: its winner's, even if that set lost elsewhere; without a winner it keeps its own
-unfoldable pub markAfter : Register → Sheet → ℕ → Mark → Mark
-markAfter g s k old = markBy s old (winner g s k)
-
--- all records of the committed sets
-unfoldable pub applied : Register → Sheet → List Record
-applied g s = flat (λ w. w.records) (keep (commits g s) s.sets)
-
--- the applied record of a key
-unfoldable pub appliedTo : List Record → ℕ → Option Record
-appliedTo rs k = first (λ r. eqb r.key k) rs
-
--- the value that a row takes: that of the applied record, if there is one
-unfoldable pub valueBy : Option Record → ℕ → ℕ
-valueBy none old = old
-valueBy (some r) old = r.value
-
--- the applied record, if there is one, is a delete
-unfoldable pub isDeleted : Option Record → Bool
-isDeleted none = false
-isDeleted (some r) = eqb r.kind delete
-
--- an old row: gone if deleted, else with the applied value and its mark
-unfoldable pub rowAfter : Register → Sheet → List Record → Row → List Row
-rowAfter g s rs row =
-    if isDeleted (appliedTo rs row.key) then [] else
-    record { key = row.key; value = valueBy (appliedTo rs row.key) row.value; mark = markAfter g s row.key row.mark } ∷ []
-
--- the row of an insert
-unfoldable pub insertedRow : Register → Sheet → Record → Row
-insertedRow g s r = record { key = r.key; value = r.value; mark = markAfter g s r.key fresh }
-
--- a row among rows in the order of their keys
-unfoldable pub putRow : Row → List Row → List Row
-putRow r [] = r ∷ []
-putRow r (q ∷ qs) = if ltb r.key q.key then r ∷ q ∷ qs else q ∷ putRow r qs
-
--- rows, one after the other, among rows in the order of their keys
-unfoldable pub putRows : List Row → List Row → List Row
-putRows [] qs = qs
-putRows (r ∷ rs) qs = putRow r (putRows rs qs)
-
--- the old rows that remain, with the inserted ones in their places
-unfoldable pub rowsAfter : Register → Sheet → List Record → List Row
-rowsAfter g s rs = putRows (map (insertedRow g s) (keep (λ r. eqb r.kind insert) rs)) (flat (rowAfter g s rs) g.rows)
-
--- THE NEXT ROWS
-unfoldable pub nextRows : Register → Sheet → List Row
-nextRows g s = rowsAfter g s (applied g s)
-
--- THE NEXT REGISTER
-unfoldable pub next : Register → Sheet → Register
-next g s = record { snapshot = g.snapshot + 1; rows = nextRows g s }
+-- the sets that commit, in csn order
+unfoldable pub committed : Register → Sheet → List WriteSet
+committed g s = keep (commits g s) s.sets
 
 -- THE VERDICTS, one a set, in csn order
 unfoldable pub verdicts : Register → Sheet → List Verdict
@@ -161,5 +105,5 @@ verdicts g s = map (verdict g s) s.sets
 
 -- opens all of these, for a proof by computation
 unfoldable pub runClosing : Unit {0}
-unfolding runRegister runSheet sent complete present fitRecord fit names claims claimants foremost winner isSet wins firstWrong firstLost judged verdict isCommit commits markBy markAfter applied appliedTo valueBy isDeleted rowAfter insertedRow putRow putRows rowsAfter nextRows next verdicts
+unfolding runRegister runSheet sent complete present fitRecord fit names claims claimants foremost winner isSet wins firstWrong firstLost judged verdict isCommit commits committed verdicts
 runClosing = tt

@@ -5,6 +5,7 @@ pub mod Register
 pub mod Sheet
 pub mod Gathering
 pub mod Closing
+pub mod Becoming
 pub mod ReadCheck
 pub mod Refused
 pub mod Applies

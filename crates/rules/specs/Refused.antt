@@ -15,7 +15,8 @@ use Rattle.rules.specs.Numbers.{masterOf}
 use Rattle.rules.specs.Register.{Register, maxRows, registerBytes, readRegister}
 use Rattle.rules.specs.Sheet.{Sheet, maxSets, inRoster, sheetBytes, readSheet, readRecords}
 use Rattle.rules.specs.Gathering.{runGathering, Offer, aSet, aNotice, emptySheet, withOffer, joined}
-use Rattle.rules.specs.Closing.{runClosing, complete, nextRows, next, verdicts}
+use Rattle.rules.specs.Closing.{complete, verdicts}
+use Rattle.rules.specs.Becoming.{runBecoming, nextRows, next}
 use Rattle.rules.specs.ReadCheck.{runReadCheck, Finding, snapshotIsolation, checkFrom, readsOf}
 use Rattle.rules.specs.Answers.{verdictCode, verdictKey}
 
@@ -145,5 +146,5 @@ checkOutcome register mode lsn keys csns = checkReads (readRegister register) mo
 
 -- opens all of these, for a proof by computation
 unfoldable pub runRefused : Unit {0}
-unfolding runGathering runClosing runReadCheck openOutcome setWith offeredSet offeredNotice offerTo putOutcome noticeOutcome joinSheets joinOutcome verdictBytes closing closeSheet closeOutcome badCheck checkReads readsOutcome checkOutcome
+unfolding runGathering runBecoming runReadCheck openOutcome setWith offeredSet offeredNotice offerTo putOutcome noticeOutcome joinSheets joinOutcome verdictBytes closing closeSheet closeOutcome badCheck checkReads readsOutcome checkOutcome
 runRefused = tt

@@ -130,23 +130,18 @@ impl Work {
         rows + inserts - deletes
     }
 
-    /// One pass: the rows before each winner's key as they are, and then the winner's.
+    /// One pass over the keys that committed sets won: the rows before each as they are, and then the one that it becomes. A key won by a
+    /// set that was lost elsewhere is passed over, so its row stays.
     fn put_rows(&self, rows: &[Row], sheet: Sheet, winners: usize, out: &mut [Row]) {
         let (mut from, mut to) = (0, 0);
-        for (claim, before) in self.claims[..winners].iter().zip(&self.before) {
+        let winners = self.claims[..winners].iter().zip(&self.before);
+        for (claim, before) in winners.filter(|(claim, _)| self.lost[claim.set()] == 0) {
             let untouched = &rows[from..*before as usize];
             out[to..to + untouched.len()].copy_from_slice(untouched);
-            from += untouched.len();
+            from += untouched.len() + usize::from(claim.kind() != INSERT);
             to += untouched.len();
-            let commits = self.lost[claim.set()] == 0;
-            let value = match (claim.kind(), commits) {
-                (INSERT, false) | (DELETE, true) => None,
-                (_, true) => Some(u64_at(&sheet.bodies[claim.number()], 8)),
-                (_, false) => Some(u64_at(&rows[from], 4)),
-            };
-            from += usize::from(claim.kind() != INSERT);
-            if let Some(value) = value {
-                let (csn, sen) = sheet.numbers(claim.set());
+            if claim.kind() != DELETE {
+                let (value, (csn, sen)) = (u64_at(&sheet.bodies[claim.number()], 8), sheet.numbers(claim.set()));
                 put_row(&mut out[to], claim.key(), value, sheet.epoch(), sen, csn);
                 to += 1;
             }

@@ -11,14 +11,15 @@ pub struct Register {
     bytes: Vec<u8>,
 }
 
-/// A row of a register: key, value, and the mark of the set that won it last.
+/// A row of a register: key, value, and the mark of the set that last committed to it. Closing leaves a row that no committed set names as it
+/// was, mark and all.
 #[derive(Clone, Copy, Debug, PartialEq, Eq, Hash)]
 pub struct Row {
     /// The pay station's key, not 0.
     pub key: u32,
     /// The pay station's value.
     pub value: u64,
-    /// The mark's epoch; 0 while no epoch has touched the row.
+    /// The mark's epoch; 0 while no set has committed to the row.
     pub cen: u32,
     /// The mark's start epoch.
     pub sen: u32,

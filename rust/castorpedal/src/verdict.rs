@@ -7,9 +7,9 @@ use std::fmt;
 /// A set's verdict. It is displayed as the report prints it: `commit 0`, `lost 10`, `unfit 30`.
 #[derive(Clone, Copy, Debug, PartialEq, Eq, Hash)]
 pub enum Verdict {
-    /// The set is fit and wins all its keys: its records are applied.
+    /// The set is fit and wins all its keys: its records are applied, and its rows take its mark.
     Commit,
-    /// The set is fit, and this is the smallest key that another won.
+    /// The set is fit, and this is the smallest key that another won. It leaves no trace, not even on a row that it won.
     Lost(u32),
     /// The smallest key that the set names wrongly: a change or delete of an absent one, or an insert of a present one.
     Unfit(u32),

@@ -38,11 +38,11 @@ fn example_a_the_smaller_csn_wins() {
 }
 
 #[test]
-fn example_c_a_lost_set_still_claims() {
+fn example_c_a_lost_set_still_claims_and_leaves_no_trace() {
     let both = [record::change(10, 7), record::change(20, 7)];
     let (verdicts, rows) = closed(&[(3, &[record::change(10, 6)]), (5, &both), (19, &[record::change(20, 8)])]);
     assert_eq!(verdicts, ["commit 0", "lost 10", "lost 20"]);
-    assert_eq!(rows, [[10, 6, 1, 1, 3], [20, 0, 1, 1, 5]]);
+    assert_eq!(rows, [[10, 6, 1, 1, 3], [20, 0, 0, 0, 0]]);
 }
 
 #[test]

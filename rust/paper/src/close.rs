@@ -1,4 +1,5 @@
-//! 'Closing': verdicts and the next register.
+//! 'Closing': verdicts and the next register. The sentence on marks is that of document 02, L1: a row's mark changes only when its winner
+//! commits.
 
 use crate::register::{Mark, Register, Row};
 use crate::sheet::{Kind, Offers, Set, Sheet};
@@ -60,19 +61,15 @@ pub fn close(register: &[u8], sheet: &[u8], next_room: usize, verdict_room: usiz
     };
     let verdicts: Vec<Verdict> = offers.sets.iter().map(judge).collect();
 
+    // A committed set is the winner of every key that it names. All other rows stay, mark and all: a winner that was lost stamps nothing.
     let mut rows = register.rows.clone();
     for (set, _) in offers.sets.iter().zip(&verdicts).filter(|(_, v)| **v == Verdict::Commit) {
         for r in &set.records {
             if r.kind == Kind::Delete {
                 rows.remove(&r.key);
             } else {
-                rows.entry(r.key).or_insert(Row { value: 0, mark: Mark::FRESH }).value = r.value;
+                rows.insert(r.key, Row { value: r.value, mark: mark(set) });
             }
-        }
-    }
-    for (key, won) in &winners {
-        if let Some(row) = rows.get_mut(key) {
-            row.mark = *won;
         }
     }
     if rows.len() > 1024 {

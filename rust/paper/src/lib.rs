@@ -1,6 +1,6 @@
-//! Document 01 in plain Rust, written from the document and not from the Rattle code.
+//! Document 01 with document 02's change L1 in plain Rust, written from the documents and not from the Rattle code.
 //!
-//! It is the other side of every comparison, so it is written to be read beside the document: maps and vectors, nothing clever.
+//! It is the other side of every comparison, so it is written to be read beside the documents: maps and vectors, nothing clever.
 //! Each operation takes the same arguments as the exported one and answers what is written, or the number of a refusal.
 
 mod check;

@@ -30,6 +30,7 @@ mod endings;
 mod examples;
 mod forms;
 mod lessons;
+mod marks;
 mod refused;
 
 pub use book::Book;
@@ -40,6 +41,7 @@ use std::path::{Path, PathBuf};
 /// All case files, in the order in which the program opens them.
 pub fn books() -> Vec<Book> {
     let mut all = examples::books();
+    all.push(marks::book());
     all.extend(refused::books());
     all
 }

@@ -1,5 +1,5 @@
-//! Closing as the library does it: a table of the first key found wrong in each set and one of the first key lost, and the winner of a key
-//! looked for among all sets, wherever it is asked for.
+//! Closing as the library does it: a table of the first key found wrong in each set and one of the first key lost, for which the winner of
+//! each key is looked for among all sets; and then, for each row, the committed set that names it.
 
 use super::forms::*;
 
@@ -42,9 +42,9 @@ fn committed<'a>(sheet: Sheet<'a>, lost: &'a Table) -> impl Iterator<Item = Set<
     sheet.sets().zip(lost).filter(|(_, lost)| **lost == 0).map(|(set, _)| set)
 }
 
-/// The record that a committed set has for a key.
-fn applied<'a>(sheet: Sheet<'a>, lost: &'a Table, key: u32) -> Option<&'a Record> {
-    committed(sheet, lost).find_map(|set| set.record_of(key))
+/// The committed set that names a key, and its record for it.
+fn applied<'a>(sheet: Sheet<'a>, lost: &'a Table, key: u32) -> Option<(Set<'a>, &'a Record)> {
+    committed(sheet, lost).find_map(|set| Some((set, set.record_of(key)?)))
 }
 
 fn applied_count(sheet: Sheet, lost: &Table, k: u8) -> usize {
@@ -57,32 +57,30 @@ fn next_insert(sheet: Sheet, lost: &Table, after: u32) -> Option<u32> {
     committed(sheet, lost).filter_map(first).min()
 }
 
-/// What an old row becomes, if it is not deleted; or the row of an insert, from one that no epoch has touched. The mark is its winner's, even
-/// if that set lost elsewhere.
-fn becomes(mut row: Row, record: Option<&Record>, sheet: Sheet, wrong: &Table) -> Option<Row> {
-    if let Some(r) = record {
+/// What an old row becomes, if it is not deleted; or the row of an insert, from one that no epoch has touched. The committed set that names it
+/// gives value and mark; without one the row stays as it is.
+fn becomes(mut row: Row, sheet: Sheet, lost: &Table) -> Option<Row> {
+    if let Some((set, r)) = applied(sheet, lost, row_key(&row)) {
         if kind(r) == DELETE {
             return None;
         }
         row[4..12].copy_from_slice(&r[8..]);
-    }
-    if let Some(set) = winner(sheet, wrong, row_key(&row)) {
         stamp(&mut row, sheet.epoch(), set.sen, set.csn);
     }
     Some(row)
 }
 
 /// The rows that remain and those that are inserted, in the order of their keys.
-fn put_rows(rows: &[Row], sheet: Sheet, wrong: &Table, lost: &Table, out: &mut [Row]) {
+fn put_rows(rows: &[Row], sheet: Sheet, lost: &Table, out: &mut [Row]) {
     let mut out = out.iter_mut();
     let mut old = rows.iter().peekable();
     let mut insert = next_insert(sheet, lost, 0);
     loop {
         let row = match (old.next_if(|row| insert.is_none_or(|k| row_key(row) < k)), insert) {
-            (Some(row), _) => becomes(*row, applied(sheet, lost, row_key(row)), sheet, wrong),
+            (Some(row), _) => becomes(*row, sheet, lost),
             (None, Some(key)) => {
                 insert = next_insert(sheet, lost, key);
-                becomes(untouched(key), applied(sheet, lost, key), sheet, wrong)
+                becomes(untouched(key), sheet, lost)
             }
             (None, None) => return,
         };
@@ -138,6 +136,6 @@ pub fn close(register: &[u8], sheet: &[u8], next: &mut [u8], verdicts: &mut [u8]
         *l = lost_key(sheet, &wrong, set);
     }
     let n = rows.len() + applied_count(sheet, &lost, INSERT) - applied_count(sheet, &lost, DELETE);
-    put_rows(rows, sheet, &wrong, &lost, started(next, verdicts, sheet, n)?);
+    put_rows(rows, sheet, &lost, started(next, verdicts, sheet, n)?);
     Ok((REGISTER_HEAD + ROW * n, put_verdicts(verdicts, sheet, &wrong, &lost)))
 }

@@ -4,6 +4,7 @@ use denote.Ref.{now}
 use Rattle.rules.specs.Register.{registerIn}
 use Rattle.rules.specs.Sheet.{sheetIn}
 use Rattle.sheets.specs.SheetSizes.{few-sets}
+use Rattle.next_rows.specs.ByTables.{committing, closing-rows}
 use Rattle.closing.proofs.CloseLaws.{closes}
 use borrow.Author.Needs.{needs}
 use Rattle.closing.proofs.epoch.write.Statement.{statement}
@@ -20,7 +21,7 @@ abbrev verdicts-stand : tie.After-set-count → tie.After-put-verdicts
 verdicts-stand c = c .before .before .before
 
 put-next-requires : tie.Need-put-next-requires
-put-next-requires c κs = search needs
+put-next-requires c κs = let p = c .before .before .before .before .before .before .before .pre in (committing (p .0), p .1, p .2, p .3, p .4)
 
 put-verdicts-requires : tie.Need-put-verdicts-requires
 put-verdicts-requires c κs = search needs
@@ -43,8 +44,7 @@ returns c =
     let r = register-stands v in
     let b = start r in
     let j = b .pre .0 in
-    let n = b .pre .2 in
-    closes (registerIn (now (b .args .register))) (sheetIn (now (b .args .sheet))) (omega (arith, b .pre .3)) (now (b .args .next)) (now (b .args .verdicts)) _ _ (b .pre .4) (b .pre .5)
+    closes (registerIn (now (b .args .register))) (sheetIn (now (b .args .sheet))) (closing-rows j) (omega (arith, b .pre .2, b .pre .3)) (now (b .args .next)) (now (b .args .verdicts)) _ _ (b .pre .4) (b .pre .5)
     (r .put-next .ensures) (omega (arith, c .verdicts-length .ensures, c .before .set-count .ensures))
     (v .put-verdicts .ensures _ (j .tells-wrong) (j .tells-lost))
 

@@ -1,25 +1,19 @@
 -- The records of the kind that the sets before set i apply are counted, and those of the sets from there on are to come.
-use Prim.Native.Nat.{ℕ, _+_, _*_, _-_, _≤_, _<_}
+use Prim.Native.Nat.{ℕ, _+_, _*_, _-_, _≤_}
 use mathlib.Core.Path.{sym, _∙_, ap}
 use mathlib.Core.Logic.{⊎-elim}
 use native.Mathlib.Omega.{arith}
 use denote.Ref.{now}
-use lib.ListN.{length}
 use borrow.Author.Needs.{needs}
-use Rattle.rules.specs.Register.{Register}
 use Rattle.rules.specs.Sheet.{maxSets, maxRecords, sheetIn}
-use Rattle.laws.specs.SheetLaws.{sheet-sound}
 use Rattle.sheets.specs.SheetSizes.{few-sets}
-use Rattle.judging.specs.Tables.{lostKey, Tells}
-use Rattle.judging.specs.TableLaws.{commit-told}
 use Rattle.judging.proofs.AppliedLaws.{Counted, counted-none, counted-more, counted-same, counted-all}
 use Rattle.judging.proofs.applying.applied_count.Statement.{statement}
 use Rattle.judging.proofs.applying.applied_count.Tie as tie
 
 abbrev Inv-loop : tie.InvT-loop
 Inv-loop sheet lost kind n count₀ i₀ count i =
-    (i ≤ n) × (n ≤ maxSets) × (count ≤ maxRecords * i)
-    × ((g : Register) → Tells (lostKey g (sheetIn sheet)) (sheetIn sheet) lost → Counted g (sheetIn sheet) kind i count)
+    (i ≤ n) × (n ≤ maxSets) × (count ≤ maxRecords * i) × Counted (sheetIn sheet) lost kind i count
 
 abbrev μ-loop : tie.MeasureT-loop
 μ-loop sheet lost kind n count₀ i₀ count i = n - i
@@ -31,7 +25,7 @@ set-count-requires : tie.Need-set-count-requires Inv-loop μ-loop
 set-count-requires c κs = search needs
 
 loop-holds : tie.Need-loop-holds Inv-loop μ-loop
-loop-holds c = (omega arith, omega (arith, few-sets _ (c .before .before .before .pre .0)), omega arith, λ g t. counted-none g _ _)
+loop-holds c = (omega arith, omega (arith, few-sets _ (c .before .before .before .pre .0)), omega arith, counted-none _ _ _)
 
 none-at-requires : tie.Need-none-at-requires Inv-loop μ-loop
 none-at-requires c κs = omega arith
@@ -50,26 +44,23 @@ loop-less c = search needs
 
 loop-again : tie.Need-loop-again Inv-loop μ-loop
 loop-again c =
-    let b = start (c .before .before .before) in
+    let a = start (c .before .before .before) .args in
     let l = c .before .before .before .loop in
-    let s = sheetIn (now (b .args .sheet)) in
-    let sound = sheet-sound _ (b .pre .0) in
-    let h : l .i < length (s .sets) = omega arith in (
+    let s = sheetIn (now (a .sheet)) in
+    let told = sym (c .before .none-at .ensures) in (
       omega arith,
       l .inv .1,
       ⊎-elim (λ w. omega (arith, w .1 .ensures .0, w .2)) (λ w. omega (arith, w .1)) (c .if1 .came),
-      λ g t.
-          let told = commit-told g s (now (b .args .lost)) sound t (l .i) h in
-          ⊎-elim
-          (λ w. rw (w .2 ∙ ap (λ (n : ℕ). l .count + n) (w .1 .ensures .1)) (counted-more g s _ (l .i) (l .count) h (l .inv .3 g t) (sym told ∙ sym (c .before .none-at .ensures) ∙ w .0 .taken)))
-          (λ w. rw (w .1) (counted-same g s _ (l .i) (l .count) h (l .inv .3 g t) (sym told ∙ sym (c .before .none-at .ensures) ∙ w .0 .left)))
+      ⊎-elim
+          (λ w. rw (w .2 ∙ ap (λ (n : ℕ). l .count + n) (w .1 .ensures .1)) (counted-more s (now (a .lost)) _ (l .i) (l .count) (omega arith) (l .inv .3) (told ∙ w .0 .taken)))
+          (λ w. rw (w .1) (counted-same s (now (a .lost)) _ (l .i) (l .count) (omega arith) (l .inv .3) (told ∙ w .0 .left)))
           (c .if1 .came),
     )
 
 returns : tie.Need-returns Inv-loop μ-loop
 returns c =
     let l = c .before .loop in
-    (omega arith, λ g t. counted-all g _ _ (l .i) (l .count) (omega arith) (l .inv .3 g t))
+    (omega arith, counted-all (sheetIn (now (start (c .before) .args .sheet))) _ _ (l .i) (l .count) (omega arith) (l .inv .3))
 
 pub applied-count-spec : {M : Type 1} → statement M
 applied-count-spec =

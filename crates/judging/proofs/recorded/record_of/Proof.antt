@@ -6,7 +6,7 @@ use borrow.Author.Needs.{needs}
 use borrow.Author.Tests.{eq-eqb, ne-eqb}
 use lib.Dec.{eqb}
 use Rattle.rules.specs.Sheet.{sheetIn, recordKey}
-use Rattle.rules.specs.Closing.{appliedTo}
+use Rattle.rules.specs.Becoming.{appliedTo}
 use Rattle.sheets.specs.SheetReadings.{setAt}
 use Rattle.judging.specs.declared.recorded.Recorded.the-variants.{As}
 use Rattle.judging.specs.Answers.{recorded}

@@ -4,11 +4,9 @@ use mathlib.Core.Path.{_≡_}
 use native.Mathlib.Omega.{arith}
 use lib.ListN.{length}
 use denote.Ref.{now}
-use Rattle.rules.specs.Register.{registerIn}
-use Rattle.rules.specs.Sheet.{sheetIn}
-use Rattle.rules.specs.Closing.{nextRows}
 use Rattle.laws.specs.RegisterLaws.{register-sound, soundRegister→}
 use Rattle.laws.specs.SheetLaws.{sheet-sound}
+use Rattle.next_rows.specs.NextRow.{rowsNext}
 use Rattle.next_rows.proofs.RowLaws.{counted}
 use borrow.Author.Needs.{needs}
 use Rattle.next_rows.proofs.rows.next_count.Statement.{statement}
@@ -16,18 +14,15 @@ use Rattle.next_rows.proofs.rows.next_count.Tie as tie
 
 -- the walk's start
 abbrev start : tie.After-applied-count → tie.Start
-start c = c .before .before .before .before .before .before
+start c = c .before .before .before .before .before
 
 -- the next rows, told by what was counted
 counts : (c : tie.After-applied-count2)
-    → length (nextRows (registerIn (now (start (c .before) .args .register))) (sheetIn (now (start (c .before) .args .sheet)))) + c .applied-count2 .result
+    → length (rowsNext (now (start (c .before) .args .register)) (now (start (c .before) .args .sheet)) (now (start (c .before) .args .lost))) + c .applied-count2 .result
     ≡ c .before .before .row-count .result + c .before .applied-count .result
 counts c =
-    let b = start (c .before) in
-    let g = registerIn (now (b .args .register)) in
-    let s = sheetIn (now (b .args .sheet)) in
-    let t = b .pre .tells-lost in
-    omega (arith, counted g s (register-sound _ (b .pre .is-register)) (sheet-sound _ (b .pre .is-sheet)), c .before .applied-count .ensures .1 g t, c .applied-count2 .ensures .1 g t, c .before .before .row-count .ensures)
+    let p = start (c .before) .pre in
+    omega (arith, counted _ _ _ (p .chosen) (register-sound _ (p .is-register)) (sheet-sound _ (p .is-sheet)), c .before .applied-count .ensures .1, c .applied-count2 .ensures .1, c .before .before .row-count .ensures)
 
 row-count-requires : tie.Need-row-count-requires
 row-count-requires c κs = search needs

@@ -1,9 +1,7 @@
 -- The row that is left of it, or none.
 use mathlib.Core.Path.{_≡_, _∙_, ap}
 use denote.Ref.{now}
-use Rattle.rules.specs.Register.{registerIn}
-use Rattle.rules.specs.Sheet.{sheetIn}
-use Rattle.rules.specs.Closing.{applied, rowAfter}
+use Rattle.rules.specs.Becoming.{rowAfter}
 use Rattle.next_rows.specs.NextRow.{rowsOf, becomes}
 use Rattle.next_rows.proofs.RowLaws.{stays-fits, stays-added, gone-added}
 use borrow.Author.Needs.{needs}
@@ -12,14 +10,10 @@ use Rattle.next_rows.proofs.rows.put_old.Tie as tie
 
 -- the walk's start, and what it knows of the row once its fate is found
 abbrev start : tie.After-becomes → tie.Start
-start c = c .before .before .before .before .before .before .before
+start c = c .before .before .before .before .before .before
 
-fate : (c : tie.After-becomes) → rowsOf (c .becomes .result) ≡ becomes (now (start c .args .register)) (now (start c .args .sheet)) (start c .args .i)
-fate c =
-    let j = start c .pre .0 in
-    let g = registerIn (now (start c .args .register)) in
-    let s = sheetIn (now (start c .args .sheet)) in
-    c .becomes .ensures g (j .tells-wrong) (j .tells-lost) ∙ ap (rowAfter g s (applied g s)) (c .before .row .ensures)
+fate : (c : tie.After-becomes) → rowsOf (c .becomes .result) ≡ becomes (now (start c .args .register)) (now (start c .args .sheet)) (now (start c .args .lost)) (start c .args .i)
+fate c = c .becomes .ensures ∙ ap (rowAfter _ _) (c .before .row .ensures)
 
 row-requires : tie.Need-row-requires
 row-requires c κs = search needs

@@ -14,14 +14,14 @@ use Rattle.next_rows.proofs.rows.put_rows.Statement.{statement}
 use Rattle.next_rows.proofs.rows.put_rows.Tie as tie
 
 abbrev Inv-loop : tie.InvT-loop
-Inv-loop register sheet wrong lost next₀ d₀ i₀ insert₀ next d i insert = Standing register sheet lost d₀ next₀ i insert d next
+Inv-loop register sheet lost next₀ d₀ i₀ insert₀ next d i insert = Standing register sheet lost d₀ next₀ i insert d next
 
 abbrev μ-loop : tie.MeasureT-loop
-μ-loop register sheet wrong lost next₀ d₀ i₀ insert₀ next d i insert = (length (registerIn register .rows) - i) + keysLeft insert
+μ-loop register sheet lost next₀ d₀ i₀ insert₀ next d i insert = (length (registerIn register .rows) - i) + keysLeft insert
 
 -- the walk's start, and the turn that the loop is in
 abbrev entered : tie.After-next-insert Inv-loop μ-loop → tie.Start Inv-loop μ-loop
-entered c = c .before .before .before .before .before .before
+entered c = c .before .before .before .before .before
 
 abbrev start : tie.At-loop Inv-loop μ-loop → tie.Start Inv-loop μ-loop
 start c = entered (c .before)
@@ -49,7 +49,7 @@ next-insert-requires c κs = search needs
 loop-holds : tie.Need-loop-holds Inv-loop μ-loop
 loop-holds c =
     let pre = entered c .pre in
-    standing-start _ _ _ _ (pre .0) _ _ (pre .1) _ (c .next-insert .ensures)
+    standing-start _ _ _ (pre .0) _ _ (pre .1) _ (c .next-insert .ensures)
 
 next-turn-requires : tie.Need-next-turn-requires Inv-loop μ-loop
 next-turn-requires c κs = search needs
@@ -63,7 +63,7 @@ put-old-requires c κs =
     let l = old-turn b .loop in
     let is = is-old b in
     let s = start (old-turn b) in
-    (s .pre .0, is .0, old-room _ _ _ _ (s .pre .0) _ _ (s .pre .1) (l .inv) (is .0) (is .1))
+    (s .pre .0, is .0, old-room _ _ _ (s .pre .0) _ _ (s .pre .1) (l .inv) (is .0) (is .1))
 
 add-i : tie.Need-add-i Inv-loop μ-loop
 add-i c =
@@ -83,7 +83,7 @@ loop-again c =
     let l = old-turn b .loop in
     let is = is-old b in
     let s = start (old-turn b) in
-    standing-old _ _ _ _ (s .pre .0) _ _ (s .pre .1) (l .inv) (is .0) (is .1) (c .before .before .put-old .ensures)
+    standing-old _ _ _ (s .pre .0) _ _ (s .pre .1) (l .inv) (is .0) (is .1) (c .before .before .put-old .ensures)
 
 enum-known-key : tie.Need-enum-known-key Inv-loop μ-loop
 enum-known-key c = search needs
@@ -95,7 +95,7 @@ put-insert-requires c κs =
     let is = is-insert b in
     let s = start (insert-turn b) in
     let j = s .pre .0 in
-    (j .is-sheet, j .wrong-places, j .lost-places, insert-room _ _ _ _ j _ _ (s .pre .1) (l .inv) is)
+    (j .is-sheet, j .lost-places, insert-room _ _ _ j _ _ (s .pre .1) (l .inv) is)
 
 next-insert-requires-2 : tie.Need-next-insert-requires-2 Inv-loop μ-loop
 next-insert-requires-2 c κs = search needs
@@ -113,7 +113,7 @@ loop-again-2 c =
     let is = is-insert b in
     let s = start (insert-turn b) in
     let j = s .pre .0 in
-    standing-insert _ _ _ _ j _ _ (s .pre .1) (l .inv) is (c .next-insert2 .result) (c .before .before .before .put-insert .ensures _ (j .tells-wrong) (j .tells-lost)) (c .next-insert2 .ensures)
+    standing-insert _ _ _ j _ _ (s .pre .1) (l .inv) is (c .next-insert2 .result) (c .before .before .before .put-insert .ensures) (c .next-insert2 .ensures)
 
 enum-told-2 : tie.Need-enum-told-2 Inv-loop μ-loop
 enum-told-2 c = search needs
@@ -125,7 +125,7 @@ returns : tie.Need-returns Inv-loop μ-loop
 returns c =
     let t = c .before .before .before in
     let is = same-turn _ _ _ (c .enum-told2 .given .1) (c .before .before .next-turn .ensures) in
-    standing-end _ _ _ _ (start t .pre .0) _ _ (start t .pre .1) (t .loop .inv) is
+    standing-end _ _ _ (start t .pre .0) _ _ (start t .pre .1) (t .loop .inv) is
 
 pub put-rows-spec : {M : Type 1} → statement M
 put-rows-spec =
