@@ -1,5 +1,5 @@
 -- The tests of a body's bytes decide whether its records are sound and written as these bytes.
-use Prim.Native.Nat.{ℕ, zero, suc, _+_, _*_, _/_, _%_, _-_, _≤_, _<_}
+use Prim.Native.Nat.{ℕ, zero, suc, _+_, _*_, _/_, _%_, _^_, _-_, _≤_, _<_}
 use mathlib.Core.Path.{_≡_, refl, sym, ap, _∙_}
 use mathlib.Core.Bool.{Bool, true}
 use mathlib.Core.List.{[], _∷_, _++_, map, append-assoc, append-nil}
@@ -12,14 +12,26 @@ use lib.Dec.{leb}
 use Rattle.words.specs.Words.{Bytes, le, word}
 use Rattle.words.specs.WordLaws.{word-fits}
 use Rattle.rules.specs.Lists.{_and_, all, flat, same, ascendFrom}
+use Rattle.rules.specs.Numbers.{fits}
 use Rattle.rules.specs.Forms.{wellFormed}
 use Rattle.rules.specs.Sheet.{recordKey, isKind, soundValue, soundRecord, recordBytes, recordsBytes, recordIn, recordsIn, maxRecords, offeredRecords, soundRecords, areRecords}
 use Rattle.laws.specs.Tests.{left, right, both, same-tests}
-use Rattle.laws.specs.FormLaws.{→fits, same→}
+use Rattle.laws.specs.FormLaws.{fits→, →fits, same→}
 use Rattle.laws.specs.SheetLaws.{records-length, records-count}
-use Rattle.laws.specs.Says.{Says, is-lt, is-le, is-eq, itself, retold, _also_, _so_}
+use Rattle.laws.specs.Says.{Says, is-lt, is-le, is-eq, itself, shaped, retold, _also_, _so_}
 use Rattle.examine.specs.SheetForm.{zeros, recordOk, bodyOk, recordsOk}
 use Rattle.laws.specs.BytesHere.{Octets, octets, and-assoc, and-true, byte-here, itself-here, word-here}
+
+-- a kind, and a value of 64 bits that it may have
+pub value-says : (kind value : ℕ) → value < 256 ^ 8 → Says (isKind kind and soundValue kind value) (((1 ≤ kind) × (kind ≤ 3)) × (kind ≡ 3 → value ≡ 0))
+unfolding isKind soundValue
+value-says kind value h =
+    shaped (λ r. (r .0, r .1 .1)) (λ r. (r .0, (→fits 8 value h, r .1)))
+    ((is-le 1 kind also is-le kind 3) also (itself (fits 8 value) also _so_ (is-eq kind 3) (is-eq value 0)))
+
+-- of which the 64 bits are a part
+pub value-told : (kind value : ℕ) → isKind kind and soundValue kind value ≡ true → ((1 ≤ kind) × (kind ≤ 3)) × (kind ≡ 3 → value ≡ 0)
+value-told kind value e = value-says kind value (fits→ 8 value (unfold soundValue in left _ _ (right (isKind kind) _ e))) .told e
 
 -- what is tested of a record, as facts
 pub record-tests : (prev : ℕ) (b : Bytes) (at : ℕ)

@@ -1,4 +1,5 @@
-// Whether bytes are a sheet, and whether they are the records of a set that can be offered: every rule of document 01's form, tested.
+// Whether bytes are a sheet, whether they are the records of a set that can be offered, and whether a kind may have a value: every rule of
+// document 01's form, tested.
 mod contents;
 mod head;
 mod records;
@@ -6,5 +7,6 @@ mod sheet;
 
 pub use contents::count_set;
 pub use records::are_records;
+pub use records::kind_and_value_ok;
 pub use records::offered_count;
 pub use sheet::is_sheet;

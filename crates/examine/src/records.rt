@@ -5,21 +5,34 @@ use words::get64;
 ghost use mathlib.Core.Path.{_≡_};
 ghost use Prim.Native.Nat.{_+_, _*_, _≤_};
 ghost use lib.ListN.{length};
-ghost use Rattle.rules.specs.Sheet.{areRecords, offeredRecords};
+ghost use Rattle.rules.specs.Lists.{_and_};
+ghost use Rattle.rules.specs.Sheet.{areRecords, offeredRecords, isKind, soundValue};
 ghost use Rattle.examine.specs.SheetForm.{recordOk, bodyOk};
 
-// Whether the record at a place is in order; prev is the key before it in its set, or 0.
-fn record_ok(b: &[u8], at: usize, prev: u32) -> bool
-    requires { ⌜ at + 16 ≤ length (now b) ⌝ }
-    ensures { λ r. ⌜ r ≡ recordOk prev (now (b .entry)) at ⌝ }
+// Whether a kind is one, and a value one that it may have.
+pub fn kind_and_value_ok(kind: u8, value: u64) -> bool
+    ensures { λ r. ⌜ r ≡ isKind kind and soundValue kind value ⌝ }
 {
-    let kind = b[at];
     if kind < Record::CHANGE {
         return false;
     }
     if Record::DELETE < kind {
         return false;
     }
+    if kind != Record::DELETE {
+        return true;
+    }
+    if value != 0 {
+        return false;
+    }
+    true
+}
+
+// Whether the record at a place is in order; prev is the key before it in its set, or 0.
+fn record_ok(b: &[u8], at: usize, prev: u32) -> bool
+    requires { ⌜ at + 16 ≤ length (now b) ⌝ }
+    ensures { λ r. ⌜ r ≡ recordOk prev (now (b .entry)) at ⌝ }
+{
     if b[at + 1] != 0 {
         return false;
     }
@@ -32,10 +45,7 @@ fn record_ok(b: &[u8], at: usize, prev: u32) -> bool
     if get32(b, at + 4) <= prev {
         return false;
     }
-    if kind != Record::DELETE {
-        return true;
-    }
-    if get64(b, at + 8) != 0 {
+    if !kind_and_value_ok(b[at], get64(b, at + 8)) {
         return false;
     }
     true
