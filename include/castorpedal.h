@@ -1,17 +1,20 @@
-/* Castorpedal: registers of pay stations, sheets of an epoch's write sets, closing an epoch, and a depot's own read check.
+/* Castorpedal: registers of pay stations, sheets of an epoch's write sets, closing an epoch, a depot's own read check, and the visit desk.
  *
  * Every function ends on all inputs, examines the forms of what it is given, and reads nothing beyond the lengths that it is told. A slice
- * is a pointer and a length; a pointer of length 0 is not read, but is not null. A buffer that is lent for writing overlaps no other.
+ * is a pointer and a length; a pointer of length 0 is not read, but is not null. A buffer that is lent for writing overlaps no other. An open
+ * set that is lent is not null, and overlaps nothing else that is lent.
  *
- * A refusal answers its number, the smallest that applies, with all lengths 0, and changes no lent byte. A success answers code 0 and
- * writes the named length at the start of the buffer; the bytes after it stay.
+ * A refusal answers its number, the smallest that applies (but of a tag 11 before 9), with all lengths 0, and changes no lent byte. A
+ * success answers code 0 and writes the named length at the start of the buffer; the bytes after it stay.
  *
  *   1 register ill-formed            6 close: the sheet is spoiled
  *   2 sheet ill-formed               7 close: a roster master has no notice, or fewer sets than it says
- *   3 set or notice ill-formed       8 close: the next register would have over 1,024 rows
- *   4 epoch 0, or another epoch      9 an output buffer is too short
- *   5 roster 0, another roster,     10 read check: mode, key, number of entries or lsn
- *     or the master is not in it
+ *   3 set or notice ill-formed;      8 close: the next register would have over 1,024 rows
+ *     desk: open set, kind, value    9 an output buffer is too short
+ *   4 epoch 0, or another epoch     10 read check: mode, key, number of entries or lsn
+ *   5 roster 0, another roster,     11 desk: bad tag, or key out of range
+ *     or the master is not in it    12 desk: the key is already in the open set
+ *                                   13 desk: a ninth record
  *
  * docs/FORMS.md has the layouts and what to do about each refusal.
  */
@@ -29,6 +32,7 @@ extern "C" {
 #define CASTORPEDAL_SHEET_ROOM 9240
 #define CASTORPEDAL_REGISTER_ROOM 28680
 #define CASTORPEDAL_VERDICT_ROOM 320
+#define CASTORPEDAL_TAG_ROOM 11
 
 /* code 0: done, and len bytes were written; else the refusal's number, and len is 0. */
 struct castorpedal_answer {
@@ -48,6 +52,13 @@ struct castorpedal_checked {
 struct castorpedal_read {
     uint32_t key;
     uint64_t csn;
+};
+
+/* The set that a clerk is typing: count records of 16 bytes, 0 to 8, their keys strictly ascending, and zero bytes behind them. The empty
+ * one, which typing begins with, is all zero. */
+struct castorpedal_open_set {
+    uint32_t count;
+    uint8_t records[128];
 };
 
 /* The sound sheet of an epoch and a roster, with no set and no notice. Refusals: 4 epoch 0, 5 roster 0, 9. */
@@ -78,6 +89,18 @@ struct castorpedal_checked castorpedal_check(const uint8_t *reg, size_t reg_len,
 /* The same with the entries as one list. */
 struct castorpedal_checked castorpedal_check_reads(const uint8_t *reg, size_t reg_len, uint8_t mode, uint32_t lsn,
                                                    const struct castorpedal_read *reads, size_t reads_len);
+
+/* One record more in the open set, in key order: kind 1 change, 2 insert, 3 delete (value 0), and the station's tag, eleven ASCII digits.
+ * Answers 0, or the refusal's number: 3 open set, kind or value ill-formed, 11, 12, 13. */
+uint32_t castorpedal_desk_enter(struct castorpedal_open_set *set, uint8_t kind, const uint8_t *tag, size_t tag_len, uint64_t value);
+
+/* The sheet with the open set put in as one set, as castorpedal_put does it; the open set is then empty, also where this spoils the sheet.
+ * Refusals: 2, 3 (also an open set that is ill-formed or empty), 4, 5, 9. */
+struct castorpedal_answer castorpedal_desk_offer(struct castorpedal_open_set *set, const uint8_t *sheet, size_t sheet_len,
+                                                 uint32_t epoch, uint32_t sen, uint64_t csn, uint8_t *out, size_t out_len);
+
+/* The tag of a key: ten digits, with leading zeros, and a check digit, with no zero byte behind them. Refusals: 11 key 0, then 9. */
+struct castorpedal_answer castorpedal_desk_tag(uint32_t key, uint8_t *out, size_t out_len);
 
 #ifdef __cplusplus
 }

@@ -6,7 +6,7 @@ pub const LABEL_LENGTH: usize = 24;
 
 pub const OPERATION: usize = 24;
 
-// Up to three numbers of the operation: epoch or mode; roster, sen, master or lsn; csn or count.
+// Up to three numbers of the operation: epoch, mode, kind or key; roster, sen, master or lsn; csn, count or value.
 pub const FIRST_NUMBER: usize = 28;
 
 pub const SECOND_NUMBER: usize = 32;

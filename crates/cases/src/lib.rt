@@ -12,6 +12,7 @@ pub use head::SECOND_INPUT;
 pub use head::SECOND_NUMBER;
 pub use head::SECOND_ROOM;
 pub use head::THIRD_INPUT;
+pub use head::THIRD_NUMBER;
 pub use operation::run_close;
 pub use operation::run_join;
 pub use operation::run_notice;

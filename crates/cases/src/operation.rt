@@ -2,10 +2,10 @@
 use crate::head::FIRST_NUMBER;
 use crate::head::SECOND_NUMBER;
 use crate::head::THIRD_NUMBER;
+use printing::show_answer;
 use printing::show_left;
 use printing::show_refused;
 use printing::show_wrote;
-use rules::Answer;
 use rules::Closed;
 use words::get16;
 use words::get32;
@@ -13,19 +13,6 @@ use words::get64;
 ghost use Prim.Native.Nat.{_≤_};
 ghost use lib.ListN.{length};
 ghost use Rattle.cases.specs.Case.{caseHead};
-
-fn show_answer(answer: Answer, out: &[u8]) {
-    match answer {
-        Answer::Wrote(n) => {
-            show_wrote(n);
-            show_left(n, out);
-        }
-        Answer::Refused(x) => {
-            show_refused(x);
-            show_left(0, out);
-        }
-    }
-}
 
 pub fn run_open(head: &[u8], out: &mut [u8])
     requires { ⌜ caseHead ≤ length (now head) ⌝ }

@@ -1,3 +1,4 @@
 pub mod Rooms
+pub mod DeskKept
 pub mod Checks
 pub mod Closes

@@ -2,6 +2,7 @@
 use Prim.Native.Nat.{ℕ, _≤_}
 use mathlib.Core.Path.{_≡_}
 use Rattle.words.specs.Words.{Bytes}
+use Rattle.rules.specs.declared.desk.OpenSet.{OpenSet}
 use Rattle.rules.specs.declared.answer.Answer.{Answer}
 use Rattle.rules.specs.declared.answer.Answer.the-variants as answer
 use Rattle.rules.specs.declared.answer.Closed.{Closed}
@@ -10,7 +11,7 @@ use Rattle.rules.specs.declared.answer.Checked.{Checked}
 use Rattle.rules.specs.ReadCheck.{Finding}
 use Rattle.rules.specs.Answers.{answerNumbers, closedNumbers, checkedNumbers}
 use Rattle.rules.specs.Refused.{Outcome, Closing, registerRoom, verdictRoom}
-use Rattle.rules.specs.Promises.{told, left, toldClosing, leftRegister, leftVerdicts, toldFinding}
+use Rattle.rules.specs.Promises.{told, left, toldClosing, leftRegister, leftVerdicts, toldFinding, toldEntering, leftEntering, leftOffering}
 use Rattle.castorpedal.specs.declared.answer.CAnswer.{CAnswer}
 use Rattle.castorpedal.specs.declared.answer.CClosed.{CClosed}
 use Rattle.castorpedal.specs.declared.answer.CChecked.{CChecked}
@@ -51,3 +52,13 @@ pub record KeptClose (o : Outcome Closing) (before-next before-verdicts : Bytes)
 -- of the read check, which is lent no buffer to write
 pub record KeptCheck (o : Outcome Finding) (r : CChecked) : Type 0 where
   pub answered : (r .code, r .index, r .key, r .reason) ≡ toldFinding o
+
+-- of entering, which is lent the open set: 0, or the refusal's number
+pub record KeptEnter (o : Outcome OpenSet) (before : OpenSet) (r : ℕ) (after : OpenSet) : Type 0 where
+  pub answered : r ≡ toldEntering o
+  pub open-set : after ≡ leftEntering o before
+
+-- of offering, which is lent the open set and a buffer for the sheet
+pub record KeptOffer (o : Outcome Bytes) (before : OpenSet) (before-out : Bytes) (r : CAnswer) (after : OpenSet) (after-out : Bytes) : Type 0 where
+  pub sheet : Kept o before-out r after-out
+  pub open-set : after ≡ leftOffering o before

@@ -2,12 +2,13 @@
 use Prim.Native.Nat.{ℕ}
 use mathlib.Core.Path.{_≡_, sym, _∙_, ap}
 use Rattle.words.specs.Words.{Bytes}
+use Rattle.rules.specs.declared.desk.OpenSet.{OpenSet}
 use Rattle.rules.specs.ReadCheck.{Finding}
 use Rattle.rules.specs.Refused.{Outcome, Closing}
 use Rattle.castorpedal.specs.declared.answer.CAnswer.{CAnswer}
 use Rattle.castorpedal.specs.declared.answer.CClosed.{CClosed}
 use Rattle.castorpedal.specs.declared.answer.CChecked.{CChecked}
-use Rattle.castorpedal.specs.Exported.{Kept, KeptClose, KeptCheck}
+use Rattle.castorpedal.specs.Exported.{Kept, KeptClose, KeptCheck, KeptEnter, KeptOffer}
 
 -- the struct of an answer's numbers
 abbrev answerOf : ℕ × ℕ → CAnswer
@@ -33,3 +34,12 @@ settled-closing o next verdicts p q = (ap closedOf (p .answered ∙ sym (q .answ
 -- OF THE READ CHECK
 pub settled-check : (o : Outcome Finding) {a b : CChecked} → KeptCheck o a → KeptCheck o b → a ≡ b
 settled-check o p q = ap checkedOf (p .answered ∙ sym (q .answered))
+
+-- OF ENTERING
+pub settled-entering : (o : Outcome OpenSet) (before : OpenSet) {r r′ : ℕ} {after after′ : OpenSet} → KeptEnter o before r after → KeptEnter o before r′ after′ → (r ≡ r′) × (after ≡ after′)
+settled-entering o before p q = (p .answered ∙ sym (q .answered), p .open-set ∙ sym (q .open-set))
+
+-- OF OFFERING
+pub settled-offering : (o : Outcome Bytes) (before : OpenSet) (out : Bytes) {a b : CAnswer} {after after′ : OpenSet} {out₁ out₂ : Bytes}
+    → KeptOffer o before out a after out₁ → KeptOffer o before out b after′ out₂ → (a ≡ b) × (after ≡ after′) × (out₁ ≡ out₂)
+settled-offering o before out p q = let s = settled o out (p .sheet) (q .sheet) in (s .0, p .open-set ∙ sym (q .open-set), s .1)

@@ -1,4 +1,4 @@
-// The answers as C sees them: document 01's numbers.
+// The answers as C sees them: the documents' numbers.
 use rules::Answer;
 use rules::Checked;
 use rules::Closed;

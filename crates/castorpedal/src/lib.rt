@@ -3,3 +3,4 @@ mod answer;
 mod check;
 mod epoch;
 mod gathering;
+mod visits;

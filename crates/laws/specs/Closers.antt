@@ -1,5 +1,5 @@
 -- DEMAND 2 asked of any closing, over what it answers and leaves in its buffers: the verdicts and the next register of document 01's rule,
--- with L1's marks, where nothing refuses, else the smallest refusal that applies. It asks just what `close` promises, and the paper's closing
+-- with L1's marks, where nothing refuses, else the foremost refusal that applies. It asks just what `close` promises, and the paper's closing
 -- meets it.
 use Prim.Native.Nat.{ℕ, _+_, _≤_}
 use mathlib.Core.Path.{_≡_, refl, sym, subst, _∙_, ap}
@@ -20,13 +20,13 @@ use Rattle.rules.specs.Closing.{complete}
 use Rattle.rules.specs.Becoming.{nextRows, next}
 use Rattle.rules.specs.Refused.{Outcome, refused, done, Closing, closing, registerRoom, verdictRoom, closeSheet, closeOutcome}
 use Rattle.rules.specs.Promises.{over, ClosePromise}
-use Rattle.rules.specs.Applies.{toClose, Smallest}
+use Rattle.rules.specs.Applies.{toClose, Foremost}
 use Rattle.laws.specs.Tests.{or-false}
 use Rattle.laws.specs.RegisterLaws as register
 use Rattle.laws.specs.SheetLaws as sheet
 use Rattle.laws.specs.NextSound.{next-read}
 use Rattle.laws.specs.NotRefused.{refused-not, done-same, passed}
-use Rattle.laws.specs.Exactly.{firstFor, smallest, none-applies, close-exactly}
+use Rattle.laws.specs.Exactly.{firstFor, foremost, none-applies, close-exactly}
 use Rattle.laws.specs.Meets.{refuses-closing, writes-closing}
 use Rattle.laws.specs.Kept.{kept-wrote-closing, kept-refuses-closing}
 
@@ -63,7 +63,7 @@ pub record Closes (r t : Bytes) (nextRoom room : ℕ) (g : Register) (s : Sheet)
 pub record Demand2 (c : Closer) : Type 0 where
   pub closes : (r t next verdicts : Bytes) (g : Register) (s : Sheet) → Closes r t (length next) (length verdicts) g s
       → c r t next verdicts ≡ writes (closing g s) next verdicts
-  pub refuses : (r t next verdicts : Bytes) (x : Refusal) → Smallest (toClose r t (length next) (length verdicts)) x
+  pub refuses : (r t next verdicts : Bytes) (x : Refusal) → Foremost (toClose r t (length next) (length verdicts)) x
       → c r t next verdicts ≡ refusesWith x next verdicts
 
 -- what is left is what closing promises of this outcome, in buffers that held this
@@ -128,8 +128,8 @@ module _ (r t next verdicts : Bytes) (l : Left) (p : Promised (closeOutcome r t 
       let w = kept-wrote-closing (closeOutcome r t (length next) (length verdicts)) (→closes r t (length next) (length verdicts) g s h) p in
       λ i. record { answer = w .0 i; next = w .1 i; verdicts = w .2 i }
 
-  -- and where a refusal is the smallest that applies
-  pub promised-refuses : (x : Refusal) → Smallest (toClose r t (length next) (length verdicts)) x → l ≡ refusesWith x next verdicts
+  -- and where a refusal is the foremost that applies
+  pub promised-refuses : (x : Refusal) → Foremost (toClose r t (length next) (length verdicts)) x → l ≡ refusesWith x next verdicts
   promised-refuses x h =
       let w = kept-refuses-closing (closeOutcome r t (length next) (length verdicts)) (close-exactly r t (length next) (length verdicts) .refused-when x h) p in
       λ i. record { answer = w .0 i; next = w .1 i; verdicts = w .2 i }
@@ -154,7 +154,7 @@ settles c d r t next verdicts = go (closeOutcome r t (length next) (length verdi
         subst (Promised (done k) next verdicts) (sym (d .closes r t next verdicts (w .0) (w .1) (w .2)))
         (writes-closing (done k) (closing (w .0) (w .1)) next verdicts (ap done (w .3)))
 
--- what is left where this refusal is the smallest that applies, or none does
+-- what is left where this refusal is the foremost that applies, or none does
 unfoldable pub leaves : Option Refusal → Closing → Bytes → Bytes → Left
 leaves none c next verdicts = writes c next verdicts
 leaves (some x) c next verdicts = refusesWith x next verdicts
@@ -170,7 +170,7 @@ paper-keeps r t next verdicts = go (firstFor (toClose r t (length next) (length 
     go : (f : Option Refusal) → firstFor (toClose r t (length next) (length verdicts)) ≡ f
         → Promised (closeOutcome r t (length next) (length verdicts)) next verdicts (leaves f (closing (registerIn r) (sheetIn t)) next verdicts)
     go none e = writes-closing _ _ next verdicts (close-exactly r t (length next) (length verdicts) .else-done (none-applies _ e))
-    go (some x) e = refuses-closing _ x next verdicts (close-exactly r t (length next) (length verdicts) .refused-when x (smallest _ x e))
+    go (some x) e = refuses-closing _ x next verdicts (close-exactly r t (length next) (length verdicts) .refused-when x (foremost _ x e))
 
 -- THE PAPER'S CLOSING MEETS IT
 pub paper-closes : Demand2 paperCloser

@@ -1,6 +1,6 @@
--- REFUSED EXACTLY WHEN: each operation's outcome is the table of 'What is refused', read row by row. It is refused with a number just when
--- that is the smallest that applies, and else done, with the result that document 01 names.
-use Prim.Native.Nat.{ℕ, zero, suc, _+_, _<_, _≤_}
+-- REFUSED EXACTLY WHEN: each operation's outcome is the table of refusals, read row by row. It is refused with a number just when
+-- that is the foremost that applies, and else done, with the result that the documents name.
+use Prim.Native.Nat.{ℕ, zero, suc, _+_, _*_, _<_, _≤_}
 use mathlib.Core.Path.{_≡_, refl, sym, _∙_, ap}
 use mathlib.Core.Bool.{Bool, true, false, not}
 use mathlib.Core.List.{List, [], _∷_, List·Memᴰ, List·Memᴰ·head as here, List·Memᴰ·tail as later}
@@ -12,32 +12,36 @@ use lib.Dec.{ltb, leb, eqb}
 use Rattle.words.specs.Words.{Bytes}
 use Rattle.rules.specs.declared.row.Record.{Record}
 use Rattle.rules.specs.declared.row.Read.{Read}
+use Rattle.rules.specs.declared.desk.OpenSet.{OpenSet}
 use Rattle.rules.specs.declared.answer.Refusal.{Refusal}
-use Rattle.rules.specs.declared.answer.Refusal.the-variants.{RegisterIllFormed, SheetIllFormed, OfferIllFormed, WrongEpoch, WrongRoster, Spoiled, Incomplete, TooManyRows, BufferShort, CheckIllFormed}
+use Rattle.rules.specs.declared.answer.Refusal.the-variants.{RegisterIllFormed, SheetIllFormed, OfferIllFormed, WrongEpoch, WrongRoster, Spoiled, Incomplete, TooManyRows, BufferShort, CheckIllFormed, BadTag, KeyEntered, NinthRecord}
 use Rattle.rules.specs.Lists.{_and_, _or_, if_then_else_, all, any, first, ascendFrom}
 use Rattle.rules.specs.Numbers.{masterOf}
 use Rattle.rules.specs.Forms.{read}
 use Rattle.rules.specs.Register.{Register, maxRows, registerIn, isRegister, readRegister}
-use Rattle.rules.specs.Sheet.{Sheet, noNotice, maxSets, masters, inRoster, setsOf, sheetBytes, sheetIn, isSheet, readSheet, offeredRecords, areRecords, readRecords}
+use Rattle.rules.specs.Sheet.{Sheet, noNotice, maxSets, maxRecords, masters, inRoster, isKind, soundValue, setsOf, sheetBytes, sheetIn, isSheet, readSheet, offeredRecords, areRecords, readRecords}
+use Rattle.rules.specs.Tag.{tagRoom, isKey, isTag, keyIn, tagOf}
+use Rattle.rules.specs.OpenSet.{openSetOf, isOpenSet, openRecords, hasKey, putRecord, offeredBytes}
 use Rattle.rules.specs.Gathering.{Offer, aSet, aNotice, emptySheet, withOffer, joined}
 use Rattle.rules.specs.Closing.{sent, complete}
 use Rattle.rules.specs.Becoming.{nextRows, next}
 use Rattle.rules.specs.ReadCheck.{readCommitted, repeatableRead, snapshotIsolation, checkFrom, readsOf}
 use Rattle.rules.specs.Answers.{refusalNumber}
-use Rattle.rules.specs.Refused.{Outcome, refused, done, sheetRoom, registerRoom, verdictRoom, maxReads, openOutcome, setWith, offeredSet, offeredNotice, offerTo, putOutcome, noticeOutcome, joinSheets, joinOutcome, closing, closeSheet, closeOutcome, badCheck, checkReads, readsOutcome, checkOutcome}
-use Rattle.rules.specs.Applies.{Asked, toOpen, toPut, toNotice, toJoin, toClose, toCheck, badRegister, badSheet, badOffer, wrongEpoch, wrongRoster, spoiledThere, owes, incomplete, tooManyRows, bufferShort, badEntries, badReadCheck, applies, Smallest, NoneApplies, RefusedExactly}
+use Rattle.rules.specs.Refused.{Outcome, refused, done, sheetRoom, registerRoom, verdictRoom, maxReads, openOutcome, setWith, offeredSet, offeredNotice, offerTo, putOutcome, noticeOutcome, joinSheets, joinOutcome, closing, closeSheet, closeOutcome, badCheck, checkReads, readsOutcome, checkOutcome, recordOf, enterOutcome, offerOutcome, tagOutcome}
+use Rattle.rules.specs.Applies.{Asked, toOpen, toPut, toNotice, toJoin, toClose, toCheck, toEnter, toOffer, toTag, badRegister, badSheet, badOffer, wrongEpoch, wrongRoster, spoiledThere, owes, incomplete, tooManyRows, bufferShort, badEntries, badReadCheck, badTag, keyEntered, ninthRecord, applies, turnOf, Foremost, NoneApplies, RefusedExactly}
 use Rattle.laws.specs.Tests.{same-tests, not-true-false}
 use Rattle.laws.specs.Says.{clash}
 use Rattle.laws.specs.ListLaws.{first→, first-none}
-use Rattle.laws.specs.Rising.{Rising, rising→, rising-first}
+use Rattle.laws.specs.Rising.{Rising, rising→, rising-one, rising-first}
+use Rattle.laws.specs.OpenSets.{offers-records, offered-records}
 use Rattle.laws.specs.NotRefused.{refused-not, done-same, refused-same, setBy}
 
 -- ---- the table, and the first of its rows that applies
 
--- the ten refusals, the smallest number first
+-- the refusals, in the order in which they are given
 abbrev pub refusals : List Refusal
 refusals =
-    RegisterIllFormed ∷ SheetIllFormed ∷ OfferIllFormed ∷ WrongEpoch ∷ WrongRoster ∷ Spoiled ∷ Incomplete ∷ TooManyRows ∷ BufferShort ∷ CheckIllFormed ∷ []
+    RegisterIllFormed ∷ SheetIllFormed ∷ OfferIllFormed ∷ BadTag ∷ KeyEntered ∷ NinthRecord ∷ WrongEpoch ∷ WrongRoster ∷ Spoiled ∷ Incomplete ∷ TooManyRows ∷ BufferShort ∷ CheckIllFormed ∷ []
 
 -- the first of the table that applies, if one does
 unfoldable pub firstFor : Asked → Option Refusal
@@ -53,28 +57,51 @@ in-table : (x : Refusal) → List·Memᴰ x refusals
 in-table RegisterIllFormed = here refl
 in-table SheetIllFormed = later (here refl)
 in-table OfferIllFormed = later (later (here refl))
-in-table WrongEpoch = later (later (later (here refl)))
-in-table WrongRoster = later (later (later (later (here refl))))
-in-table Spoiled = later (later (later (later (later (here refl)))))
-in-table Incomplete = later (later (later (later (later (later (here refl))))))
-in-table TooManyRows = later (later (later (later (later (later (later (here refl)))))))
-in-table BufferShort = later (later (later (later (later (later (later (later (here refl))))))))
-in-table CheckIllFormed = later (later (later (later (later (later (later (later (later (here refl)))))))))
+in-table BadTag = later (later (later (here refl)))
+in-table KeyEntered = later (later (later (later (here refl))))
+in-table NinthRecord = later (later (later (later (later (here refl)))))
+in-table WrongEpoch = later (later (later (later (later (later (here refl))))))
+in-table WrongRoster = later (later (later (later (later (later (later (here refl)))))))
+in-table Spoiled = later (later (later (later (later (later (later (later (here refl))))))))
+in-table Incomplete = later (later (later (later (later (later (later (later (later (here refl)))))))))
+in-table TooManyRows = later (later (later (later (later (later (later (later (later (later (here refl))))))))))
+in-table BufferShort = later (later (later (later (later (later (later (later (later (later (later (here refl)))))))))))
+in-table CheckIllFormed = later (later (later (later (later (later (later (later (later (later (later (later (here refl))))))))))))
 
--- which ascends by number
-table-rises : Rising refusalNumber refusals
+-- in which they ascend by their turns
+table-rises : Rising turnOf refusals
 unfolding ascendFrom _and_
-table-rises = rising→ refusalNumber 0 refusals refl .0
+table-rises = rising→ turnOf 0 refusals refl .0
+
+-- document 01's refusals have the turns of their numbers, counted in tens
+tens : (x : Refusal) → refusalNumber x ≤ 10 → turnOf x ≡ 10 * refusalNumber x
+tens RegisterIllFormed h = refl
+tens SheetIllFormed h = refl
+tens OfferIllFormed h = refl
+tens WrongEpoch h = refl
+tens WrongRoster h = refl
+tens Spoiled h = refl
+tens Incomplete h = refl
+tens TooManyRows h = refl
+tens BufferShort h = refl
+tens CheckIllFormed h = refl
+tens BadTag h = absurd (omega arith)
+tens KeyEntered h = absurd (omega arith)
+tens NinthRecord h = absurd (omega arith)
+
+-- OF DOCUMENT 01'S REFUSALS THE SMALLER IS GIVEN BEFORE THE LARGER
+pub smaller-first : (x y : Refusal) → refusalNumber x ≤ 10 → refusalNumber y ≤ 10 → refusalNumber x < refusalNumber y → turnOf x < turnOf y
+smaller-first x y h k l = omega (arith, tens x h, tens y k)
 
 not-both : {m n : ℕ} → m ≤ n → n < m → ⊥
 not-both h k = omega arith
 
--- the first of the table that applies is the smallest that does
-pub smallest : (q : Asked) (x : Refusal) → firstFor q ≡ some x → Smallest q x
+-- the first of the table that applies is the foremost that does
+pub foremost : (q : Asked) (x : Refusal) → firstFor q ≡ some x → Foremost q x
 unfolding firstFor
-smallest q x e = record {
+foremost q x e = record {
   it-applies = first→ (λ y. applies y q) refusals e .1;
-  none-smaller = λ y l. not-true-false (λ t. not-both (rising-first refusalNumber (λ z. applies z q) table-rises e (in-table y) t) l);
+  none-before = λ y l. not-true-false (λ t. not-both (rising-first turnOf (λ z. applies z q) table-rises e (in-table y) t) l);
 }
 
 -- where there is none, none applies
@@ -82,12 +109,12 @@ pub none-applies : (q : Asked) → firstFor q ≡ none → NoneApplies q
 unfolding firstFor
 none-applies q e x = first-none (λ y. applies y q) refusals e x (in-table x)
 
--- two that are smallest have one number
-one-smallest : (q : Asked) (x y : Refusal) → Smallest q x → Smallest q y → refusalNumber x ≡ refusalNumber y
-one-smallest q x y a b =
-    go (λ l. clash (a .it-applies) (b .none-smaller x l)) (λ l. clash (b .it-applies) (a .none-smaller y l))
+-- two that are foremost have one number
+one-foremost : (q : Asked) (x y : Refusal) → Foremost q x → Foremost q y → refusalNumber x ≡ refusalNumber y
+one-foremost q x y a b =
+    ap refusalNumber (rising-one turnOf table-rises (in-table x) (in-table y) (go (λ l. clash (a .it-applies) (b .none-before x l)) (λ l. clash (b .it-applies) (a .none-before y l))))
   where
-    go : (refusalNumber x < refusalNumber y → ⊥) → (refusalNumber y < refusalNumber x → ⊥) → refusalNumber x ≡ refusalNumber y
+    go : (turnOf x < turnOf y → ⊥) → (turnOf y < turnOf x → ⊥) → turnOf x ≡ turnOf y
     go h k = omega arith
 
 module _ {A : Type 0} (q : Asked) (o : Outcome A) (a : A) where
@@ -104,9 +131,9 @@ module _ {A : Type 0} (q : Asked) (o : Outcome A) (a : A) where
         only-else = λ b r. (none-applies q e, done-same (sym r ∙ p));
       }
       go (some x) e p = record {
-        refused-when = λ y s. p ∙ ap refused (one-smallest q x y (smallest q x e) s);
-        only-when = λ n r. (x, refused-same (sym r ∙ p), smallest q x e);
-        else-done = λ h. absurd (clash (smallest q x e .it-applies) (h x));
+        refused-when = λ y s. p ∙ ap refused (one-foremost q x y (foremost q x e) s);
+        only-when = λ n r. (x, refused-same (sym r ∙ p), foremost q x e);
+        else-done = λ h. absurd (clash (foremost q x e .it-applies) (h x));
         only-else = λ b r. absurd (refused-not (sym p ∙ r));
       }
 
@@ -124,7 +151,7 @@ module _ {A : Type 0} where
 
 -- opens the table's rows, for a proof by computation
 unfoldable runTable : Unit {0}
-unfolding first applies badRegister badSheet badOffer wrongEpoch wrongRoster spoiledThere incomplete tooManyRows bufferShort badReadCheck firstFor
+unfolding first applies badRegister badSheet badOffer wrongEpoch wrongRoster spoiledThere incomplete tooManyRows bufferShort badReadCheck badTag keyEntered ninthRecord firstFor
 runTable = tt
 
 -- ---- open
@@ -381,3 +408,54 @@ pub check-exactly : (register : Bytes) (mode lsn : ℕ) (keys csns : List ℕ)
 unfolding runTable checkOutcome readRegister isRegister read
 check-exactly register mode lsn keys csns =
     exactly-by (toCheck register mode lsn (readsOf keys csns)) _ _ (check-by (isRegister register) (registerIn register) mode lsn (readsOf keys csns))
+
+-- ---- the desk
+
+-- OF ENTER
+pub enter-exactly : (o : OpenSet) (kind : ℕ) (tag : Bytes) (value : ℕ)
+    → RefusedExactly (toEnter o kind tag value) (enterOutcome o kind tag value) (openSetOf (putRecord (recordOf kind (keyIn tag) value) (openRecords o)))
+unfolding runTable enterOutcome
+enter-exactly o kind tag value =
+    exactly-by (toEnter o kind tag value) _ _
+    (row (not (isOpenSet o) or not (isKind kind) or not (soundValue kind value)) OfferIllFormed _ _
+    (row (not (isTag tag)) BadTag _ _
+    (row (hasKey (keyIn tag) (openRecords o)) KeyEntered _ _
+    (row (leb maxRecords (length (openRecords o))) NinthRecord _ _ (end _)))))
+
+-- a set with these records where t, and else none
+abbrev setIf : ℕ → ℕ → ℕ → Bool → List Record → Option Offer
+setIf e sen csn t rs = if eqb e 0 or ltb e sen or not t then none else some (aSet (setBy csn sen rs))
+
+-- where it is none, any records do
+no-set : (e sen csn : ℕ) (rs qs : List Record) → setIf e sen csn false rs ≡ setIf e sen csn false qs
+unfolding _or_
+no-set e sen csn rs qs = go (eqb e 0) (ltb e sen)
+  where
+    go : (x y : Bool) → (if x or y or true then none else some (aSet (setBy csn sen rs))) ≡ (if x or y or true then none else some (aSet (setBy csn sen qs)))
+    go true y = refl
+    go false true = refl
+    go false false = refl
+
+-- the open set that is offered, by what makes it no set
+open-by : (e sen csn : ℕ) (o : OpenSet) → offeredSet e sen csn (offeredBytes o) ≡ setIf e sen csn (isOpenSet o and leb 1 o.count) (openRecords o)
+unfolding _and_
+open-by e sen csn o =
+    set-by e sen csn (offeredBytes o) ∙ ap (λ (t : Bool). setIf e sen csn t (offeredRecords (offeredBytes o))) (offers-records o) ∙ go (isOpenSet o) refl
+  where
+    go : (t : Bool) → isOpenSet o ≡ t → setIf e sen csn (t and leb 1 o.count) (offeredRecords (offeredBytes o)) ≡ setIf e sen csn (t and leb 1 o.count) (openRecords o)
+    go true h = ap (setIf e sen csn (leb 1 o.count)) (offered-records o h)
+    go false h = no-set e sen csn (offeredRecords (offeredBytes o)) (openRecords o)
+
+-- OF OFFER
+pub offer-exactly : (o : OpenSet) (s : Bytes) (e sen csn room : ℕ)
+    → RefusedExactly (toOffer o s e sen csn room) (offerOutcome o s e sen csn room) (sheetBytes (withOffer (sheetIn s) (aSet (setBy csn sen (openRecords o)))))
+unfolding runTable offerOutcome putOutcome readSheet isSheet read
+offer-exactly o s e sen csn room =
+    exactly-by (toOffer o s e sen csn room) _ _
+    (ap (λ (x : Option Offer). offerTo (readSheet s) x e (masterOf csn) room) (open-by e sen csn o)
+    ∙ offer-by (isSheet s) (eqb e 0 or ltb e sen or not (isOpenSet o and leb 1 o.count)) (sheetIn s) (aSet (setBy csn sen (openRecords o))) e (masterOf csn) room)
+
+-- OF TAG
+pub tag-exactly : (key room : ℕ) → RefusedExactly (toTag key room) (tagOutcome key room) (tagOf key)
+unfolding runTable tagOutcome
+tag-exactly key room = exactly-by (toTag key room) _ _ (row (not (isKey key)) BadTag _ _ (row (ltb room tagRoom) BufferShort _ _ (end _)))

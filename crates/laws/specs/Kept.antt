@@ -5,6 +5,8 @@ use mathlib.Core.Path.{_≡_, refl, sym, subst, _∙_, ap}
 use lib.ListN.{length, take, drop}
 use lib.Seq.{take-at, drop-at}
 use Rattle.words.specs.Words.{Bytes}
+use Rattle.rules.specs.declared.desk.OpenSet.{OpenSet}
+use Rattle.rules.specs.declared.desk.Entered.the-variants as entered
 use Rattle.rules.specs.declared.answer.Refusal.{Refusal}
 use Rattle.rules.specs.declared.answer.Reason.{Reason}
 use Rattle.rules.specs.declared.answer.Answer.{Answer}
@@ -15,8 +17,9 @@ use Rattle.rules.specs.declared.answer.Checked.the-variants as checked
 use Rattle.rules.specs.Answers.{refusalNumber}
 use Rattle.rules.specs.ReadCheck.{Finding, passes, fails}
 use Rattle.rules.specs.Refused.{Outcome, refused, done, Closing}
-use Rattle.rules.specs.Promises.{over, told, left, Promise, toldClosing, leftRegister, leftVerdicts, ClosePromise, toldFinding, CheckPromise}
-use Rattle.rules.specs.Applies.{Asked, Smallest, RefusedExactly}
+use Rattle.rules.specs.Promises.{over, told, left, Promise, toldClosing, leftRegister, leftVerdicts, ClosePromise, toldFinding, CheckPromise, toldEntering, leftEntering, EnterPromise, leftOffering, OfferPromise}
+use Rattle.rules.specs.OpenSet.{emptySet}
+use Rattle.rules.specs.Applies.{Asked, Foremost, RefusedExactly}
 use Rattle.rules.specs.Settled.{Four, same-refusal, refusal-some, reason-some, same-reason, settled, settled-closing}
 use Rattle.laws.specs.Meets.{writes, refuses-closing, writes-closing}
 
@@ -28,9 +31,9 @@ Numbered o = o ≡ refused 0 → ⊥
 pub numbered : {A : Type 0} {q : Asked} {o : Outcome A} {a : A} → RefusedExactly q o a → Numbered o
 numbered h e = let w = h .only-when 0 e in refusal-some (w .0) (w .1)
 
--- the refusal that it answers is the smallest that applies
-pub refused-smallest : {A : Type 0} {q : Asked} {o : Outcome A} {a : A} {x : Refusal} → RefusedExactly q o a → o ≡ refused (refusalNumber x) → Smallest q x
-refused-smallest {q} {x} h e = let w = h .only-when (refusalNumber x) e in subst (Smallest q) (same-refusal (w .0) x (sym (w .1))) (w .2)
+-- the refusal that it answers is the foremost that applies
+pub refused-foremost : {A : Type 0} {q : Asked} {o : Outcome A} {a : A} {x : Refusal} → RefusedExactly q o a → o ≡ refused (refusalNumber x) → Foremost q x
+refused-foremost {q} {x} h e = let w = h .only-when (refusalNumber x) e in subst (Foremost q) (same-refusal (w .0) x (sym (w .1))) (w .2)
 
 -- what is written stands at the start of the buffer
 pub written : (old new : Bytes) (n : ℕ) {after : Bytes} → n ≡ length new → after ≡ over old new → new ≡ take n after
@@ -176,3 +179,37 @@ module _ (o : Outcome Finding) where
       go (refused k) e p = e ∙ ap refused (sym (ap (λ (y : Four). y .0) (p .answered)))
       go (done passes) e p = absurd (refusal-some x (sym (ap (λ (y : Four). y .0) (p .answered))))
       go (done (fails i k r)) e p = absurd (refusal-some x (sym (ap (λ (y : Four). y .0) (p .answered))))
+
+-- ---- the desk
+
+module _ (o : Outcome OpenSet) {before after : OpenSet} where
+  -- WHERE ENTERING ANSWERS THAT THE RECORD IS ADDED IT IS DONE, and the open set is the result
+  pub kept-added : Numbered o → EnterPromise o before entered.Added after → o ≡ done after
+  unfolding toldEntering leftEntering
+  kept-added h p = go o refl p
+    where
+      go : (r : Outcome OpenSet) → o ≡ r → EnterPromise r before entered.Added after → o ≡ done after
+      go (refused n) e p = absurd (h (e ∙ ap refused (sym (p .answered))))
+      go (done b) e p = e ∙ ap done (sym (p .open-set))
+
+  -- WHERE IT ANSWERS A REFUSAL IT IS REFUSED WITH THAT NUMBER, and the open set is as it was
+  pub kept-refused-entering : {x : Refusal} → EnterPromise o before (entered.Refused x) after → (o ≡ refused (refusalNumber x)) × (after ≡ before)
+  unfolding toldEntering leftEntering
+  kept-refused-entering {x} p = go o refl p
+    where
+      go : (r : Outcome OpenSet) → o ≡ r → EnterPromise r before (entered.Refused x) after → (o ≡ refused (refusalNumber x)) × (after ≡ before)
+      go (refused n) e p = (e ∙ ap refused (sym (p .answered)), p .open-set)
+      go (done b) e p = absurd (refusal-some x (sym (p .answered)))
+
+module _ (o : Outcome Bytes) {before after : OpenSet} {l l′ : Bytes} where
+  -- AN OFFER THAT IS NOT REFUSED LEAVES THE OPEN SET EMPTY
+  pub kept-offered : {n : ℕ} → Numbered o → OfferPromise o before l (answer.Wrote n) after l′ → after ≡ emptySet
+  unfolding leftOffering
+  kept-offered h p = p .open-set ∙ ap (λ (r : Outcome Bytes). leftOffering r before) (kept-done o h (p .sheet))
+
+  -- AND ONE THAT IS REFUSED LEAVES IT, and the buffer, as they were
+  pub kept-refused-offering : {x : Refusal} → OfferPromise o before l (answer.Refused x) after l′ → (o ≡ refused (refusalNumber x)) × (after ≡ before) × (l′ ≡ l)
+  unfolding leftOffering
+  kept-refused-offering p =
+      let k = kept-refused o (p .sheet) in
+      (k .0, p .open-set ∙ ap (λ (r : Outcome Bytes). leftOffering r before) (k .0), k .1)

@@ -45,3 +45,9 @@ pub mod ClosingWrites
 pub mod FirstFailing
 pub mod BytesHere
 pub mod Places
+pub mod OpenSets
+pub mod TagRule
+pub mod TagDetects
+pub mod Tags
+pub mod Entering
+pub mod AnyOrder

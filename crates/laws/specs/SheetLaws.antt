@@ -48,7 +48,7 @@ record-tail : (r : Record) (rest : Bytes) → drop 16 (recordBytes r ++ rest) �
 unfolding recordBytes le
 record-tail r rest = refl
 
-record-length : (r : Record) → length (recordBytes r) ≡ 16
+pub record-length : (r : Record) → length (recordBytes r) ≡ 16
 unfolding recordBytes le
 record-length r = refl
 
@@ -64,7 +64,7 @@ records-count zero b at = refl
 records-count (suc n) b at = ap suc (records-count n b (at + 16))
 
 -- the records that stand at a place are read there
-records-at : (rs : List Record) (b : Bytes) (at : ℕ) (rest : Bytes) → all soundRecord rs ≡ true → drop at b ≡ recordsBytes rs ++ rest → recordsIn (length rs) b at ≡ rs
+pub records-at : (rs : List Record) (b : Bytes) (at : ℕ) (rest : Bytes) → all soundRecord rs ≡ true → drop at b ≡ recordsBytes rs ++ rest → recordsIn (length rs) b at ≡ rs
 unfolding recordsIn recordsBytes flat all
 records-at [] b at rest e d = refl
 records-at (r ∷ rs) b at rest e d =

@@ -3,11 +3,14 @@
 use Prim.Native.Nat.{ℕ}
 use mathlib.Core.Path.{_≡_, refl, sym, _∙_, ap, subst}
 use mathlib.Core.Bool.{true}
-use mathlib.Core.List.{[]}
+use mathlib.Core.List.{List, []}
+use mathlib.Core.Option.{some}
 use native.Mathlib.Omega.{arith}
 use lib.ListN.{length, take}
 use lib.Seq.{take-all}
 use Rattle.words.specs.Words.{Bytes}
+use Rattle.rules.specs.declared.row.Record.{Record}
+use Rattle.rules.specs.declared.desk.OpenSet.{OpenSet}
 use Rattle.rules.specs.declared.answer.Refusal.{Refusal}
 use Rattle.rules.specs.declared.answer.Answer.{Answer}
 use Rattle.rules.specs.declared.answer.Answer.the-variants.{Wrote, Refused}
@@ -15,14 +18,16 @@ use Rattle.rules.specs.declared.answer.Closed.{Closed}
 use Rattle.rules.specs.declared.answer.Closed.the-variants as closed
 use Rattle.rules.specs.Answers.{refusalNumber}
 use Rattle.rules.specs.Register.{Register}
-use Rattle.rules.specs.Sheet.{Sheet, isSheet, sheetBytes}
-use Rattle.rules.specs.Refused.{Outcome, refused, done, Closing, openOutcome, putOutcome, noticeOutcome, joinOutcome, closeOutcome}
-use Rattle.rules.specs.Promises.{Promise, ClosePromise}
-use Rattle.rules.specs.Applies.{toClose, Smallest}
+use Rattle.rules.specs.Sheet.{Sheet, isSheet, recordsBytes, sheetBytes}
+use Rattle.rules.specs.OpenSet.{emptySet, readOpen, offeredBytes}
+use Rattle.rules.specs.Refused.{Outcome, refused, done, Closing, openOutcome, putOutcome, noticeOutcome, joinOutcome, closeOutcome, offerOutcome}
+use Rattle.rules.specs.Promises.{Promise, ClosePromise, OfferPromise}
+use Rattle.rules.specs.Applies.{toClose, Foremost}
 use Rattle.laws.specs.GatherSound.{Head}
 use Rattle.laws.specs.NotRefused.{refused-not}
-use Rattle.laws.specs.Exactly.{open-exactly, put-exactly, notice-exactly, join-exactly, close-exactly}
-use Rattle.laws.specs.Kept.{Numbered, numbered, refused-smallest, written, kept-done, kept-length, kept-lengths, kept-refused, kept-done-closing, kept-refused-closing, kept-wrote-closing, kept-refuses-closing}
+use Rattle.laws.specs.Exactly.{open-exactly, put-exactly, notice-exactly, join-exactly, close-exactly, offer-exactly}
+use Rattle.laws.specs.Kept.{Numbered, numbered, refused-foremost, written, kept-done, kept-length, kept-lengths, kept-refused, kept-done-closing, kept-refused-closing, kept-wrote-closing, kept-refuses-closing, kept-offered}
+use Rattle.laws.specs.OpenSets.{offers-own}
 use Rattle.laws.specs.Trees.{Number, Tree, opened, put, notice, join, given, paper, andThen, ends, epochOf, rosterOf, gatheredIn}
 use Rattle.laws.specs.Demand3.{demand-3}
 use Rattle.laws.specs.FairTrees.{FairTree}
@@ -100,6 +105,24 @@ depots-same {t} {u} {n} {m} {held} {other} p q e f h =
     let w = same-ended t u (take n held) (take m other) (calls-tell p) (calls-tell q) e f h in
     (calls-length p ∙ ap length w ∙ sym (calls-length q), w)
 
+-- ---- a set that came through the desk
+
+-- an offer of the open set is a call of put with its records: the calls of a tree may come through the desk
+pub offer-is-put : {t : Tree} {n : ℕ} {held : Bytes} → Called t (Wrote n) held → (o : OpenSet) (e sen : ℕ) (csn : Number 8) (before : Bytes) {a : Answer} {o′ : OpenSet} {after : Bytes}
+    → OfferPromise (offerOutcome o (take n held) e sen csn.value (length before)) o before a o′ after → Called (put t e sen csn (offeredBytes o) (length before)) a after
+unfolding offerOutcome
+offer-is-put c o e sen csn before p = puts c e sen csn (offeredBytes o) before (p .sheet)
+
+-- AN OFFER OF THE OPEN SET THAT ANSWERED SUCCESS left the gathered sheet with that set put, and the open set empty
+pub offer-gathers : {t : Tree} {n m : ℕ} {held : Bytes} → Called t (Wrote n) held → (o : OpenSet) (rs : List Record) → readOpen o ≡ some rs → (e sen : ℕ) (csn : Number 8) (before : Bytes)
+    {o′ : OpenSet} {after : Bytes} → OfferPromise (offerOutcome o (take n held) e sen csn.value (length before)) o before (Wrote m) o′ after
+    → (take m after ≡ sheetBytes (gatheredIn (put t e sen csn (recordsBytes rs) (length before)))) × (o′ ≡ emptySet)
+offer-gathers {t} {n} {m} {held} c o rs r e sen csn before {o′} {after} p =
+    let w = calls-gather (offer-is-put c o e sen csn before p) .1 in (
+      w ∙ ap (λ (b : Bytes). sheetBytes (gatheredIn (put t e sen csn b (length before)))) (offers-own o rs r),
+      kept-offered (offerOutcome o (take n held) e sen csn.value (length before)) (numbered (offer-exactly o (take n held) e sen csn.value (length before))) p,
+    )
+
 -- ---- a call of close
 
 -- a call of close on a register and a sheet: what it answered, and what it left in the buffers that it was lent
@@ -135,14 +158,14 @@ close-writes {r} {t} {next} {verdicts} {i} {j} c =
     let w = closing-writes r t n m (record { register = take i next; verdicts = take j verdicts }) e in
     (l .0, l .1, (w .0, w .1, record { reads-register = w .2; reads-sheet = w .3; next-room = n; room = m; is-done = e }))
 
--- WHERE IT ANSWERED A REFUSAL, that is the smallest that applies, and both buffers are as they were
+-- WHERE IT ANSWERED A REFUSAL, that is the foremost that applies, and both buffers are as they were
 pub close-refuses : {r t next verdicts : Bytes} {x : Refusal} (c : CloseCall r t (closed.Refused x) next verdicts)
-    → Smallest (toClose r t (length (c .lent-next)) (length (c .lent-verdicts))) x × (next ≡ c .lent-next) × (verdicts ≡ c .lent-verdicts)
+    → Foremost (toClose r t (length (c .lent-next)) (length (c .lent-verdicts))) x × (next ≡ c .lent-next) × (verdicts ≡ c .lent-verdicts)
 close-refuses {r} {t} c =
     let n = length (c .lent-next) in
     let m = length (c .lent-verdicts) in
     let k = kept-refused-closing (closeOutcome r t n m) (c .kept) in
-    (refused-smallest (close-exactly r t n m) (k .0), k .1, k .2)
+    (refused-foremost (close-exactly r t n m) (k .0), k .1, k .2)
 
 -- what a call of close is known to have done, by its outcome
 written-by : {r t next verdicts : Bytes} {a : Closed} (c : CloseCall r t a next verdicts) (k : Closing)

@@ -1,16 +1,20 @@
--- THE AUDITOR'S PAGE. The three demands that every part is marked by: a field for each sentence, in order, and below each record the value
+-- THE AUDITOR'S PAGE. The three demands that every part is marked by, and the visit desk: a field for each sentence, in order, and below each record the value
 -- that proves it. What an operation does is its outcome (`rules` `Refused`), and what its code ensures of its answer and of every lent byte is
 -- its promise of that outcome (`rules` `Promises`).
-use Prim.Native.Nat.{ℕ}
+use Prim.Native.Nat.{ℕ, suc, _<_, _≤_}
 use mathlib.Core.Path.{_≡_, ap, ap₂}
 use mathlib.Core.Logic.{_⊎_}
 use mathlib.Core.Bool.{true, false}
-use mathlib.Core.List.{List, List·Memᴰ}
+use mathlib.Core.List.{List, [], List·Memᴰ, List·Permᴰ}
 use mathlib.Core.Option.{Option, none, some}
-use lib.ListN.{length, take, drop}
+use lib.ListN.{length, getD, set, take, drop}
 use Rattle.words.specs.Words.{Bytes}
 use Rattle.rules.specs.declared.row.Row.{Row}
+use Rattle.rules.specs.declared.row.Record.{Record}
 use Rattle.rules.specs.declared.row.Read.{Read}
+use Rattle.rules.specs.declared.desk.OpenSet.{OpenSet}
+use Rattle.rules.specs.declared.desk.Entered.{Entered}
+use Rattle.rules.specs.declared.desk.Entered.the-variants as entered
 use Rattle.rules.specs.declared.answer.Refusal.{Refusal}
 use Rattle.rules.specs.declared.answer.Answer.{Answer}
 use Rattle.rules.specs.declared.answer.Answer.the-variants.{Wrote, Refused}
@@ -23,23 +27,31 @@ use Rattle.rules.specs.Answers.{refusalNumber}
 use Rattle.rules.specs.Lists.{flat}
 use Rattle.rules.specs.Numbers.{masterOf}
 use Rattle.rules.specs.Register.{Register, soundRegister, registerBytes, registerIn, readRegister}
-use Rattle.rules.specs.Sheet.{WriteSet, Sheet, soundSheet, sheetBytes, sheetIn, readSheet, offeredRecords}
+use Rattle.rules.specs.Sheet.{WriteSet, Sheet, isKind, soundValue, soundSheet, sheetBytes, sheetIn, readSheet, recordsBytes, offeredRecords}
+use Rattle.rules.specs.Tag.{rightTag, keyIn, isKey, keyOfTag, tagOf, exchanged}
+use Rattle.rules.specs.OpenSet.{soundOpen, openSetOf, emptySet, openRecords, isOpenSet, readOpen, putRecord, offeredBytes}
 use Rattle.rules.specs.Gathering.{Offer, aSet, aNotice, emptySheet, spoiledSheet, gathered, offersOf, withOffer, joined}
 use Rattle.rules.specs.Closing.{present, markIn, winner, verdict, commits, committed, verdicts}
 use Rattle.rules.specs.Becoming.{nextRows, next}
 use Rattle.rules.specs.ReadCheck.{Finding, passes, fails, checkFrom, readsOf}
-use Rattle.rules.specs.Refused.{Outcome, refused, done, Closing, closing, sheetRoom, verdictBytes, openOutcome, putOutcome, noticeOutcome, joinSheets, joinOutcome, offerTo, offeredSet, offeredNotice, closeSheet, closeOutcome, checkReads, readsOutcome, checkOutcome}
-use Rattle.rules.specs.Promises.{Promise, ClosePromise, CheckPromise}
-use Rattle.rules.specs.Applies.{Asked, toOpen, toPut, toNotice, toJoin, toClose, toCheck, Smallest, RefusedExactly}
+use Rattle.rules.specs.Refused.{Outcome, refused, done, Closing, closing, sheetRoom, verdictBytes, openOutcome, putOutcome, noticeOutcome, joinSheets, joinOutcome, offerTo, offeredSet, offeredNotice, closeSheet, closeOutcome, checkReads, readsOutcome, checkOutcome, recordOf, enterOutcome, offerOutcome, tagOutcome}
+use Rattle.rules.specs.Promises.{Promise, ClosePromise, CheckPromise, EnterPromise, OfferPromise}
+use Rattle.rules.specs.Applies.{Asked, toOpen, toPut, toNotice, toJoin, toClose, toCheck, toEnter, toOffer, toTag, turnOf, Foremost, RefusedExactly}
 use Rattle.rules.specs.Settled as settled
 use Rattle.laws.specs.ListLaws.{Sub}
 use Rattle.laws.specs.Says.{Says}
 use Rattle.laws.specs.RegisterLaws as register
 use Rattle.laws.specs.SheetLaws as sheet
+use Rattle.laws.specs.TagDetects as detects
+use Rattle.laws.specs.Tags as tags
+use Rattle.laws.specs.OpenSets as opened
+use Rattle.laws.specs.Entering as entering
+use Rattle.laws.specs.Entering.{Enters}
+use Rattle.laws.specs.AnyOrder as typed
 use Rattle.laws.specs.GatherLaws as gathering
 use Rattle.laws.specs.GatherSound.{Head}
 use Rattle.laws.specs.OwnOffers as own
-use Rattle.laws.specs.Trees.{Number, Tree, paper, ends, offersIn, epochOf, rosterOf, spoiledIn, allOpened, gatheredIn, Within}
+use Rattle.laws.specs.Trees.{Number, Tree, put, paper, ends, offersIn, epochOf, rosterOf, spoiledIn, allOpened, gatheredIn, Within}
 use Rattle.laws.specs.FairTrees.{GoodSet, GoodNotice, FairTree}
 use Rattle.laws.specs.NeverStuck as stuck
 use Rattle.laws.specs.NeverStuck.{JustWhen}
@@ -69,13 +81,14 @@ use Rattle.laws.specs.WrongClosers.{RefusesAlways, AnswersAlike, DoesNothing, N
 use Rattle.laws.specs.Gatherers as gatherers
 use Rattle.laws.specs.Gatherers.{Demand3, alwaysSpoiled, firstOffer, countsDeliveries, exampleA, exampleG, exampleG1}
 use Rattle.laws.specs.Examples as examples
+use Rattle.merge.specs.Examined as examined
 use Rattle.merge.specs.Calls as calls
 use Rattle.merge.specs.Calls.{Called, CloseCall, Roomy, writtenNext, writtenVerdicts}
 
 -- DEMAND 1: every public operation ends on all inputs, examines forms itself, refuses by a fixed number, and a refusal writes nothing.
 -- (That a function ends, on all inputs and without a precondition, is what the checker proves of its code.)
 pub record FirstDemand : Type 0 where
-  -- On all inputs an operation is refused with a number just when that row of the table is the smallest that applies, and else done:
+  -- On all inputs an operation is refused with a number just when that row of the table is the foremost that applies, and else done:
   pub opens : (epoch roster room : ℕ) → RefusedExactly (toOpen epoch roster room) (openOutcome epoch roster room) (sheetBytes (emptySheet epoch roster))
   pub puts : (sheet : Bytes) (epoch sen csn : ℕ) (records : Bytes) (room : ℕ)
       → RefusedExactly (toPut sheet epoch sen csn records room) (putOutcome sheet epoch sen csn records room)
@@ -91,6 +104,14 @@ pub record FirstDemand : Type 0 where
       (checkFrom (registerIn register) mode lsn 0 (entriesOf (readsOf keys csns)))
   pub checks-reads : (register : Bytes) (mode lsn : ℕ) (entries : List Read)
       → RefusedExactly (toCheck register mode lsn (some entries)) (readsOutcome register mode lsn entries) (checkFrom (registerIn register) mode lsn 0 entries)
+  pub enters : (o : OpenSet) (kind : ℕ) (tag : Bytes) (value : ℕ)
+      → RefusedExactly (toEnter o kind tag value) (enterOutcome o kind tag value) (openSetOf (putRecord (recordOf kind (keyIn tag) value) (openRecords o)))
+  pub offers : (o : OpenSet) (sheet : Bytes) (epoch sen csn room : ℕ)
+      → RefusedExactly (toOffer o sheet epoch sen csn room) (offerOutcome o sheet epoch sen csn room)
+      (sheetBytes (withOffer (sheetIn sheet) (aSet (setBy csn sen (openRecords o)))))
+  pub tags : (key room : ℕ) → RefusedExactly (toTag key room) (tagOutcome key room) (tagOf key)
+  -- They are given in the documents' order, in which of document 01's the smaller comes before the larger.
+  pub smaller-first : (x y : Refusal) → refusalNumber x ≤ 10 → refusalNumber y ≤ 10 → refusalNumber x < refusalNumber y → turnOf x < turnOf y
   -- What the read check answers is the first failing entry, or that none fails.
   pub first-failing : (g : Register) (mode lsn : ℕ) (entries : List Read) → reading.Tells g mode lsn 0 entries (checkFrom g mode lsn 0 entries)
   -- It examines forms itself: what is no register is refused with 1, what is no sheet with 2, an ill-formed offer with 3, each before what has a larger number.
@@ -107,6 +128,10 @@ pub record FirstDemand : Type 0 where
       → putOutcome sheet epoch sen csn records room ≡ refused 3
   pub notice-examines-notice : (sheet : Bytes) (epoch master number room : ℕ) (s : Sheet) → readSheet sheet ≡ some s → offeredNotice epoch master number ≡ none
       → noticeOutcome sheet epoch master number room ≡ refused 3
+  pub enter-examines-set : (o : OpenSet) (kind : ℕ) (tag : Bytes) (value : ℕ) → isOpenSet o ≡ false → enterOutcome o kind tag value ≡ refused 3
+  pub offer-examines-sheet : (o : OpenSet) (sheet : Bytes) (epoch sen csn room : ℕ) → readSheet sheet ≡ none → offerOutcome o sheet epoch sen csn room ≡ refused 2
+  pub offer-examines-set : (o : OpenSet) (sheet : Bytes) (epoch sen csn room : ℕ) (s : Sheet) → readSheet sheet ≡ some s → isOpenSet o ≡ false
+      → offerOutcome o sheet epoch sen csn room ≡ refused 3
   -- It refuses by a fixed number: a promise kept tells the outcome. Success means that the named length was written, and the bytes after it stayed;
   pub success-tells : (q : Asked) (o : Outcome Bytes) (result before after : Bytes) (n : ℕ) → RefusedExactly q o result → Promise o before (Wrote n) after
       → (o ≡ done (take n after)) × (n ≡ length (take n after)) × (drop n after ≡ drop n before)
@@ -116,25 +141,38 @@ pub record FirstDemand : Type 0 where
       × (i ≡ length (take i next′)) × (drop i next′ ≡ drop i next) × (j ≡ length (take j verdicts′)) × (drop j verdicts′ ≡ drop j verdicts)
   pub pass-tells : (q : Asked) (o : Outcome Finding) (result : Finding) → RefusedExactly q o result → CheckPromise o checked.Pass → o ≡ done passes
   pub failure-tells : (o : Outcome Finding) (i k : ℕ) (reason : Reason) → CheckPromise o (checked.Fails i k reason) → o ≡ done (fails i k reason)
-  -- a refusal, that it is the smallest that applies.
+  pub added-tells : (q : Asked) (o : Outcome OpenSet) (result before after : OpenSet) → RefusedExactly q o result → EnterPromise o before entered.Added after → o ≡ done after
+  pub offered-tells : (q : Asked) (o : Outcome Bytes) (result : Bytes) (before after : OpenSet) (out out′ : Bytes) (n : ℕ) → RefusedExactly q o result
+      → OfferPromise o before out (Wrote n) after out′ → (o ≡ done (take n out′)) × (n ≡ length (take n out′)) × (drop n out′ ≡ drop n out) × (after ≡ emptySet)
+  -- a refusal, that it is the foremost that applies.
   pub refusal-tells : (q : Asked) (o : Outcome Bytes) (result before after : Bytes) (x : Refusal) → RefusedExactly q o result → Promise o before (Refused x) after
-      → (o ≡ refused (refusalNumber x)) × Smallest q x
+      → (o ≡ refused (refusalNumber x)) × Foremost q x
   pub closing-refusal-tells : (q : Asked) (o : Outcome Closing) (result : Closing) (next verdicts next′ verdicts′ : Bytes) (x : Refusal) → RefusedExactly q o result
-      → ClosePromise o next verdicts (closed.Refused x) next′ verdicts′ → (o ≡ refused (refusalNumber x)) × Smallest q x
+      → ClosePromise o next verdicts (closed.Refused x) next′ verdicts′ → (o ≡ refused (refusalNumber x)) × Foremost q x
   pub check-refusal-tells : (q : Asked) (o : Outcome Finding) (result : Finding) (x : Refusal) → RefusedExactly q o result → CheckPromise o (checked.Refused x)
-      → (o ≡ refused (refusalNumber x)) × Smallest q x
+      → (o ≡ refused (refusalNumber x)) × Foremost q x
+  pub entering-refusal-tells : (q : Asked) (o : Outcome OpenSet) (result before after : OpenSet) (x : Refusal) → RefusedExactly q o result
+      → EnterPromise o before (entered.Refused x) after → (o ≡ refused (refusalNumber x)) × Foremost q x
+  pub offering-refusal-tells : (q : Asked) (o : Outcome Bytes) (result : Bytes) (before after : OpenSet) (out out′ : Bytes) (x : Refusal) → RefusedExactly q o result
+      → OfferPromise o before out (Refused x) after out′ → (o ≡ refused (refusalNumber x)) × Foremost q x
   -- And it settles the answer and every lent byte.
   pub settled : (o : Outcome Bytes) (before after after′ : Bytes) (a b : Answer) → Promise o before a after → Promise o before b after′ → (a ≡ b) × (after ≡ after′)
   pub settled-closing : (o : Outcome Closing) (next verdicts n n′ v v′ : Bytes) (a b : Closed)
       → ClosePromise o next verdicts a n v → ClosePromise o next verdicts b n′ v′ → (a ≡ b) × (n ≡ n′) × (v ≡ v′)
   pub settled-check : (o : Outcome Finding) (a b : Checked) → CheckPromise o a → CheckPromise o b → a ≡ b
+  pub settled-entering : (o : Outcome OpenSet) (before after after′ : OpenSet) (a b : Entered) → EnterPromise o before a after → EnterPromise o before b after′ → (a ≡ b) × (after ≡ after′)
+  pub settled-offering : (o : Outcome Bytes) (before after after′ : OpenSet) (out out₁ out₂ : Bytes) (a b : Answer)
+      → OfferPromise o before out a after out₁ → OfferPromise o before out b after′ out₂ → (a ≡ b) × (after ≡ after′) × (out₁ ≡ out₂)
   -- A refusal writes nothing.
   pub refusal-writes-nothing : (o : Outcome Bytes) (before after : Bytes) (x : Refusal) → Promise o before (Refused x) after → after ≡ before
   pub refused-closing-writes-nothing : (o : Outcome Closing) (next verdicts next′ verdicts′ : Bytes) (x : Refusal)
       → ClosePromise o next verdicts (closed.Refused x) next′ verdicts′ → (next′ ≡ next) × (verdicts′ ≡ verdicts)
+  pub refused-entering-leaves : (o : Outcome OpenSet) (before after : OpenSet) (x : Refusal) → EnterPromise o before (entered.Refused x) after → after ≡ before
+  pub refused-offering-leaves : (o : Outcome Bytes) (before after : OpenSet) (out out′ : Bytes) (x : Refusal) → OfferPromise o before out (Refused x) after out′
+      → (after ≡ before) × (out′ ≡ out)
 
 pub demand-1 : FirstDemand
-unfolding closeOutcome closeSheet checkOutcome readsOutcome checkReads putOutcome noticeOutcome offerTo joinOutcome joinSheets
+unfolding closeOutcome closeSheet checkOutcome readsOutcome checkReads putOutcome noticeOutcome offerTo joinOutcome joinSheets offerOutcome
 demand-1 = record {
   opens = exactly.open-exactly;
   puts = exactly.put-exactly;
@@ -143,6 +181,10 @@ demand-1 = record {
   closes = exactly.close-exactly;
   checks = exactly.check-exactly;
   checks-reads = exactly.reads-exactly;
+  enters = exactly.enter-exactly;
+  offers = exactly.offer-exactly;
+  tags = exactly.tag-exactly;
+  smaller-first = exactly.smaller-first;
   first-failing = λ g mode lsn es. reading.check-tells g mode lsn 0 es;
   close-examines-register = λ r t n m e. ap (λ (g : Option Register). closeSheet g (readSheet t) n m) e;
   check-examines-register = λ r mode lsn ks cs e. ap (λ (g : Option Register). checkReads g mode lsn (readsOf ks cs)) e;
@@ -154,6 +196,9 @@ demand-1 = record {
   join-examines-second = λ a b room s e f. ap₂ (λ (x y : Option Sheet). joinSheets x y room) e f;
   put-examines-set = λ b e sen csn rs room s h k. ap₂ (λ (a : Option Sheet) (o : Option Offer). offerTo a o e (masterOf csn) room) h k;
   notice-examines-notice = λ b e m n room s h k. ap₂ (λ (a : Option Sheet) (o : Option Offer). offerTo a o e m room) h k;
+  enter-examines-set = entering.no-open-set;
+  offer-examines-sheet = λ o s e sen csn room h. ap (λ (a : Option Sheet). offerTo a (offeredSet e sen csn (offeredBytes o)) e (masterOf csn) room) h;
+  offer-examines-set = examined.offer-examines;
   success-tells = λ q o result before after n e p. (kept.kept-done o (kept.numbered e) p, kept.kept-length o (kept.numbered e) p, kept.kept-after o p);
   closing-success-tells = λ q o result next verdicts next′ verdicts′ i j e p.
       let l = kept.kept-lengths o (kept.numbered e) p in
@@ -161,14 +206,24 @@ demand-1 = record {
       (kept.kept-done-closing o (kept.numbered e) p, l .0, a .0, l .1, a .1);
   pass-tells = λ q o result e p. kept.kept-pass o (kept.numbered e) p;
   failure-tells = λ o i k reason p. kept.kept-fails o p;
-  refusal-tells = λ q o result before after x e p. let k = kept.kept-refused o p .0 in (k, kept.refused-smallest e k);
-  closing-refusal-tells = λ q o result next verdicts next′ verdicts′ x e p. let k = kept.kept-refused-closing o p .0 in (k, kept.refused-smallest e k);
-  check-refusal-tells = λ q o result x e p. let k = kept.kept-refused-check o p in (k, kept.refused-smallest e k);
+  added-tells = λ q o result before after e p. kept.kept-added o (kept.numbered e) p;
+  offered-tells = λ q o result before after out out′ n e p.
+      let s = p .sheet in
+      (kept.kept-done o (kept.numbered e) s, kept.kept-length o (kept.numbered e) s, kept.kept-after o s, kept.kept-offered o (kept.numbered e) p);
+  refusal-tells = λ q o result before after x e p. let k = kept.kept-refused o p .0 in (k, kept.refused-foremost e k);
+  closing-refusal-tells = λ q o result next verdicts next′ verdicts′ x e p. let k = kept.kept-refused-closing o p .0 in (k, kept.refused-foremost e k);
+  check-refusal-tells = λ q o result x e p. let k = kept.kept-refused-check o p in (k, kept.refused-foremost e k);
+  entering-refusal-tells = λ q o result before after x e p. let k = kept.kept-refused-entering o p .0 in (k, kept.refused-foremost e k);
+  offering-refusal-tells = λ q o result before after out out′ x e p. let k = kept.kept-refused-offering o p .0 in (k, kept.refused-foremost e k);
   settled = λ o before after after′ a b p q. settled.settled o before p q;
   settled-closing = λ o next verdicts n n′ v v′ a b p q. settled.settled-closing o next verdicts p q;
   settled-check = λ o a b p q. settled.settled-check o p q;
+  settled-entering = λ o before after after′ a b p q. settled.settled-entering o before p q;
+  settled-offering = λ o before after after′ out out₁ out₂ a b p q. settled.settled-offering o before out p q;
   refusal-writes-nothing = λ o before after x p. kept.kept-refused o p .1;
   refused-closing-writes-nothing = λ o next verdicts next′ verdicts′ x p. let k = kept.kept-refused-closing o p in (k .1, k .2);
+  refused-entering-leaves = λ o before after x p. kept.kept-refused-entering o p .1;
+  refused-offering-leaves = λ o before after out out′ x p. let k = kept.kept-refused-offering o p in (k .1, k .2);
 }
 
 -- DEMAND 2: closing gives exactly the verdicts and next register of document 01's rule, in which a row's mark changes only when its
@@ -212,9 +267,9 @@ pub record SecondDemand : Type 0 where
   pub closing-writes : (r t next verdicts : Bytes) (i j : ℕ) → CloseCall r t (closed.Wrote i j) next verdicts
       → (i ≡ length (take i next)) × (j ≡ length (take j verdicts))
       × ((g : Register) × (s : Sheet) × Gives r t g s (record { register = take i next; verdicts = take j verdicts }))
-  -- and one that answers a refusal answers the smallest that applies, and left both buffers as they were.
+  -- and one that answers a refusal answers the foremost that applies, and left both buffers as they were.
   pub closing-refuses : (r t next verdicts : Bytes) (x : Refusal) (c : CloseCall r t (closed.Refused x) next verdicts)
-      → Smallest (toClose r t (length (c .lent-next)) (length (c .lent-verdicts))) x × (next ≡ c .lent-next) × (verdicts ≡ c .lent-verdicts)
+      → Foremost (toClose r t (length (c .lent-next)) (length (c .lent-verdicts))) x × (next ≡ c .lent-next) × (verdicts ≡ c .lent-verdicts)
   -- Asked of any closing: who keeps the promise of close meets the demand, and who meets it keeps the promise.
   pub keeps-meets : (c : Closer) → Keeps c → Demand2 c
   pub meets-keeps : (c : Closer) → Demand2 c → Keeps c
@@ -317,6 +372,56 @@ demand-3 = record {
   same-left = λ t u n m held other p q e f h. calls.depots-same p q e f h;
   same-closing = rooms.same-closing;
   same-closed = λ t u n m held other p q e f h r next verdicts next′ verdicts′ a b c d x y. calls.depots-alike p q e f h c d x y;
+}
+
+-- THE VISIT DESK (document 02, L2): clerks type kind, tag and value; the open set is filled where it stands, kept in key order, then offered to
+-- the depot's sheet, which empties it unless refused.
+pub record TheDesk : Type 0 where
+  -- The open set reads back as written, has one encoding, and the empty one is all zero.
+  pub open-reads-back : (rs : List Record) → soundOpen rs ≡ true → readOpen (openSetOf rs) ≡ some rs
+  pub open-one-encoding : (o : OpenSet) (rs : List Record) → readOpen o ≡ some rs → (o ≡ openSetOf rs) × (soundOpen rs ≡ true)
+  pub open-empty : openSetOf [] ≡ emptySet
+  -- Entering that is not refused adds exactly that record, in key order; and the records of a set, typed one by one in any order, are none of
+  -- them refused and end in the same open set.
+  pub adds-one : (o : OpenSet) (kind : ℕ) (tag : Bytes) (value : ℕ) (after : OpenSet) → enterOutcome o kind tag value ≡ done after → Enters o kind tag value after
+  pub any-order : (rs ts : List Record) → soundOpen rs ≡ true → List·Permᴰ rs ts → typed.enterAll ts emptySet ≡ done (openSetOf rs)
+  -- Offering is put of its records, so demand 3's trees may hold a set that came through the desk; not refused, it leaves the open set empty.
+  pub offer-is-put : (t : Tree) (n : ℕ) (held : Bytes) → Called t (Wrote n) held → (o : OpenSet) (e sen : ℕ) (csn : Number 8) (before : Bytes) (a : Answer) (o′ : OpenSet) (after : Bytes)
+      → OfferPromise (offerOutcome o (take n held) e sen csn.value (length before)) o before a o′ after → Called (put t e sen csn (offeredBytes o) (length before)) a after
+  pub offer-gathers : (t : Tree) (n m : ℕ) (held : Bytes) → Called t (Wrote n) held → (o : OpenSet) (rs : List Record) → readOpen o ≡ some rs → (e sen : ℕ) (csn : Number 8) (before : Bytes)
+      (o′ : OpenSet) (after : Bytes) → OfferPromise (offerOutcome o (take n held) e sen csn.value (length before)) o before (Wrote m) o′ after
+      → (take m after ≡ sheetBytes (gatheredIn (put t e sen csn (recordsBytes rs) (length before)))) × (o′ ≡ emptySet)
+  -- A right tag with one digit altered, or two unequal neighbouring digits exchanged, is no right tag, at any of the eleven places;
+  pub one-altered : (t : Bytes) (p v : ℕ) → rightTag t ≡ true → p < 11 → (v ≡ getD t p 0 → ⊥) → rightTag (set t p v) ≡ false
+  pub neighbours-exchanged : (t : Bytes) (p : ℕ) → rightTag t ≡ true → suc p < 11 → (getD t p 0 ≡ getD t (suc p) 0 → ⊥) → rightTag (exchanged t p) ≡ false
+  -- and a tag that is not right is refused with 11;
+  pub wrong-tag : (o : OpenSet) (kind : ℕ) (tag : Bytes) (value : ℕ) → isOpenSet o ≡ true → isKind kind ≡ true → soundValue kind value ≡ true → rightTag tag ≡ false
+      → enterOutcome o kind tag value ≡ refused 11
+  -- the tag of a station's key has that key, two stations have two tags, and no station has two;
+  pub tag-right : (k : ℕ) → rightTag (tagOf k) ≡ true
+  pub key-of-tag : (k : ℕ) → isKey k ≡ true → keyOfTag (tagOf k) ≡ some k
+  pub two-tags : (k j : ℕ) → isKey k ≡ true → isKey j ≡ true → tagOf k ≡ tagOf j → k ≡ j
+  pub one-tag : (t : Bytes) (k : ℕ) → keyOfTag t ≡ some k → t ≡ tagOf k
+  -- and station 572 is tagged 00000005724.
+  pub station-572 : (tagOf 572 ≡ tags.tag572) × (keyOfTag tags.tag572 ≡ some 572)
+
+pub the-desk : TheDesk
+the-desk = record {
+  open-reads-back = opened.open-written;
+  open-one-encoding = opened.written-open;
+  open-empty = opened.empty-open;
+  adds-one = entering.enters;
+  any-order = typed.any-order;
+  offer-is-put = λ t n held c o e sen csn before a o′ after p. calls.offer-is-put c o e sen csn before p;
+  offer-gathers = λ t n m held c o rs r e sen csn before o′ after p. calls.offer-gathers c o rs r e sen csn before p;
+  one-altered = detects.one-altered;
+  neighbours-exchanged = detects.neighbours-exchanged;
+  wrong-tag = entering.wrong-tag;
+  tag-right = tags.tag-right;
+  key-of-tag = tags.key-of-tag;
+  two-tags = tags.two-tags;
+  one-tag = tags.one-tag;
+  station-572 = tags.station-572;
 }
 
 -- THE WRONG VERSIONS that document 01 names, and two that L1 rules out: each demand, asked of any candidate, rejects them on an example.

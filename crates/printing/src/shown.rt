@@ -1,4 +1,5 @@
 // What is printed of an answer and of bytes.
+use rules::Answer;
 use rules::Refusal;
 use rules::VERDICT_ROOM;
 ghost use Prim.Native.Nat.{_<_};
@@ -43,7 +44,7 @@ fn sum(bytes: &[u8]) -> u64 {
 }
 
 // Every byte, or the sum of more bytes than verdicts can have.
-fn show_bytes(bytes: &[u8]) {
+pub fn show_bytes(bytes: &[u8]) {
     if bytes.len() == 0 {
         return;
     }
@@ -77,4 +78,18 @@ pub fn show_left(n: usize, out: &[u8]) {
         }
     }
     io::write_all(1, b" and more");
+}
+
+// What an operation with one buffer answered, and what it left there.
+pub fn show_answer(answer: Answer, out: &[u8]) {
+    match answer {
+        Answer::Wrote(n) => {
+            show_wrote(n);
+            show_left(n, out);
+        }
+        Answer::Refused(x) => {
+            show_refused(x);
+            show_left(0, out);
+        }
+    }
 }

@@ -1,11 +1,13 @@
--- Document 01's number and values for every case of every answer.
+-- The documents' number and values for every case of every answer.
 use Prim.Native.Nat.{ℕ}
 use Rattle.rules.specs.declared.answer.Refusal.{Refusal}
-use Rattle.rules.specs.declared.answer.Refusal.the-variants.{RegisterIllFormed, SheetIllFormed, OfferIllFormed, WrongEpoch, WrongRoster, Spoiled, Incomplete, TooManyRows, BufferShort, CheckIllFormed}
+use Rattle.rules.specs.declared.answer.Refusal.the-variants.{RegisterIllFormed, SheetIllFormed, OfferIllFormed, WrongEpoch, WrongRoster, Spoiled, Incomplete, TooManyRows, BufferShort, CheckIllFormed, BadTag, KeyEntered, NinthRecord}
 use Rattle.rules.specs.declared.answer.Reason.{Reason}
 use Rattle.rules.specs.declared.answer.Reason.the-variants.{Gone, OtherCsn, TooNew}
 use Rattle.rules.specs.declared.answer.Verdict.{Verdict}
 use Rattle.rules.specs.declared.answer.Verdict.the-variants.{Commit, Lost, Unfit}
+use Rattle.rules.specs.declared.desk.Entered.{Entered}
+use Rattle.rules.specs.declared.desk.Entered.the-variants as entered
 use Rattle.rules.specs.declared.answer.Answer.{Answer}
 use Rattle.rules.specs.declared.answer.Answer.the-variants as answer
 use Rattle.rules.specs.declared.answer.Closed.{Closed}
@@ -13,7 +15,7 @@ use Rattle.rules.specs.declared.answer.Closed.the-variants as closed
 use Rattle.rules.specs.declared.answer.Checked.{Checked}
 use Rattle.rules.specs.declared.answer.Checked.the-variants as checked
 
--- the table of 'What is refused'
+-- the table of 'What is refused', and document 02's refusals
 abbrev pub refusalNumber : Refusal → ℕ
 refusalNumber RegisterIllFormed = 1
 refusalNumber SheetIllFormed = 2
@@ -25,6 +27,9 @@ refusalNumber Incomplete = 7
 refusalNumber TooManyRows = 8
 refusalNumber BufferShort = 9
 refusalNumber CheckIllFormed = 10
+refusalNumber BadTag = 11
+refusalNumber KeyEntered = 12
+refusalNumber NinthRecord = 13
 
 -- the read check's reasons
 abbrev pub reasonNumber : Reason → ℕ
@@ -59,3 +64,8 @@ abbrev pub checkedNumbers : Checked → ℕ × ℕ × ℕ × ℕ
 checkedNumbers checked.Pass = (0, 0, 0, 0)
 checkedNumbers (checked.Fails i k r) = (0, i, k, reasonNumber r)
 checkedNumbers (checked.Refused x) = (refusalNumber x, 0, 0, 0)
+
+-- of entering: 0, or the refusal's number
+abbrev pub enteredNumber : Entered → ℕ
+enteredNumber entered.Added = 0
+enteredNumber (entered.Refused x) = refusalNumber x

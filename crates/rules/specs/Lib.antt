@@ -3,6 +3,9 @@ pub mod Numbers
 pub mod Forms
 pub mod Register
 pub mod Sheet
+pub mod Tag
+pub mod TagTable
+pub mod OpenSet
 pub mod Gathering
 pub mod Closing
 pub mod Becoming

@@ -4,10 +4,13 @@ use mathlib.Core.Path.{_≡_}
 use mathlib.Core.List.{_++_}
 use lib.ListN.{length, drop}
 use Rattle.words.specs.Words.{Bytes}
+use Rattle.rules.specs.declared.desk.OpenSet.{OpenSet}
+use Rattle.rules.specs.declared.desk.Entered.{Entered}
 use Rattle.rules.specs.declared.answer.Answer.{Answer}
 use Rattle.rules.specs.declared.answer.Closed.{Closed}
 use Rattle.rules.specs.declared.answer.Checked.{Checked}
-use Rattle.rules.specs.Answers.{answerNumbers, closedNumbers, checkedNumbers, reasonNumber}
+use Rattle.rules.specs.Answers.{answerNumbers, closedNumbers, checkedNumbers, enteredNumber, reasonNumber}
+use Rattle.rules.specs.OpenSet.{emptySet}
 use Rattle.rules.specs.ReadCheck.{Finding, passes, fails}
 use Rattle.rules.specs.Refused.{Outcome, refused, done, Closing}
 
@@ -61,7 +64,32 @@ toldFinding (done (fails i k r)) = (0, i, k, reasonNumber r)
 pub record CheckPromise (o : Outcome Finding) (answer : Checked) : Type 0 where
   pub answered : checkedNumbers answer ≡ toldFinding o
 
+-- what an outcome of entering is answered with: 0, or the refusal's number
+unfoldable pub toldEntering : Outcome OpenSet → ℕ
+toldEntering (refused n) = n
+toldEntering (done o) = 0
+
+-- the open set after it: after a refusal, what it was
+unfoldable pub leftEntering : Outcome OpenSet → OpenSet → OpenSet
+leftEntering (refused n) old = old
+leftEntering (done o) old = o
+
+-- of entering, where the open set was `before` and then is `after`
+pub record EnterPromise (o : Outcome OpenSet) (before : OpenSet) (answer : Entered) (after : OpenSet) : Type 0 where
+  pub answered : enteredNumber answer ≡ toldEntering o
+  pub open-set : after ≡ leftEntering o before
+
+-- the open set after an offer: empty, unless it was refused
+unfoldable pub leftOffering : Outcome Bytes → OpenSet → OpenSet
+leftOffering (refused n) old = old
+leftOffering (done b) old = emptySet
+
+-- of offering, with a buffer for the sheet: what an operation with one buffer promises, and the open set
+pub record OfferPromise (o : Outcome Bytes) (before : OpenSet) (before-out : Bytes) (answer : Answer) (after : OpenSet) (after-out : Bytes) : Type 0 where
+  pub sheet : Promise o before-out answer after-out
+  pub open-set : after ≡ leftOffering o before
+
 -- opens all of these, for a proof by computation
 unfoldable pub runPromises : Unit {0}
-unfolding over told left toldClosing leftRegister leftVerdicts toldFinding
+unfolding over told left toldClosing leftRegister leftVerdicts toldFinding toldEntering leftEntering leftOffering
 runPromises = tt

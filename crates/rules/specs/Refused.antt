@@ -1,5 +1,5 @@
--- Document 01, 'What is refused': what each operation does with the bytes and numbers it is given and the lengths of the buffers it is
--- lent. The refusals of each are one chain, the smallest number first.
+-- Document 01, 'What is refused', and document 02's refusals: what each operation does with the bytes and numbers it is given and the
+-- lengths of the buffers it is lent. The refusals of each are one chain, in the documents' order.
 use Prim.Native.Nat.{ℕ, _+_}
 use mathlib.Core.Bool.{Bool, not}
 use mathlib.Core.List.{List, _∷_}
@@ -9,11 +9,14 @@ use lib.Dec.{ltb, leb, eqb}
 use Rattle.words.specs.Words.{Bytes, le}
 use Rattle.rules.specs.declared.row.Record.{Record}
 use Rattle.rules.specs.declared.row.Read.{Read}
+use Rattle.rules.specs.declared.desk.OpenSet.{OpenSet}
 use Rattle.rules.specs.declared.answer.Verdict.{Verdict}
 use Rattle.rules.specs.Lists.{_and_, _or_, if_then_else_, any, flat}
 use Rattle.rules.specs.Numbers.{masterOf}
 use Rattle.rules.specs.Register.{Register, maxRows, registerBytes, readRegister}
-use Rattle.rules.specs.Sheet.{Sheet, maxSets, inRoster, sheetBytes, readSheet, readRecords}
+use Rattle.rules.specs.Sheet.{Sheet, maxSets, maxRecords, inRoster, isKind, soundValue, sheetBytes, readSheet, readRecords}
+use Rattle.rules.specs.Tag.{runTag, tagRoom, isKey, isTag, keyIn, tagOf}
+use Rattle.rules.specs.OpenSet.{runOpenSet, openSetOf, isOpenSet, openRecords, hasKey, putRecord, offeredBytes}
 use Rattle.rules.specs.Gathering.{runGathering, Offer, aSet, aNotice, emptySheet, withOffer, joined}
 use Rattle.rules.specs.Closing.{complete, verdicts}
 use Rattle.rules.specs.Becoming.{runBecoming, nextRows, next}
@@ -144,7 +147,31 @@ readsOutcome register mode lsn es = checkReads (readRegister register) mode lsn 
 unfoldable pub checkOutcome : Bytes → ℕ → ℕ → List ℕ → List ℕ → Outcome Finding
 checkOutcome register mode lsn keys csns = checkReads (readRegister register) mode lsn (readsOf keys csns)
 
+-- what a clerk types, as a record
+abbrev pub recordOf : ℕ → ℕ → ℕ → Record
+recordOf kind key value = record { kind = kind; key = key; value = value }
+
+-- ENTER: 3 open set, kind or value ill-formed, 11 bad tag or key out of range, 12 key already in the open set, 13 a ninth record
+unfoldable pub enterOutcome : OpenSet → ℕ → Bytes → ℕ → Outcome OpenSet
+enterOutcome o kind tag value =
+    if not (isOpenSet o) or not (isKind kind) or not (soundValue kind value) then refused 3 else
+    if not (isTag tag) then refused 11 else
+    if hasKey (keyIn tag) (openRecords o) then refused 12 else
+    if leb maxRecords (length (openRecords o)) then refused 13 else
+    done (openSetOf (putRecord (recordOf kind (keyIn tag) value) (openRecords o)))
+
+-- OFFER: put of the open set's records
+unfoldable pub offerOutcome : OpenSet → Bytes → ℕ → ℕ → ℕ → ℕ → Outcome Bytes
+offerOutcome o sheet epoch sen csn room = putOutcome sheet epoch sen csn (offeredBytes o) room
+
+-- TAG: 11 for a key out of range, then 9 for a buffer under eleven bytes
+unfoldable pub tagOutcome : ℕ → ℕ → Outcome Bytes
+tagOutcome key room =
+    if not (isKey key) then refused 11 else
+    if ltb room tagRoom then refused 9 else
+    done (tagOf key)
+
 -- opens all of these, for a proof by computation
 unfoldable pub runRefused : Unit {0}
-unfolding runGathering runBecoming runReadCheck openOutcome setWith offeredSet offeredNotice offerTo putOutcome noticeOutcome joinSheets joinOutcome verdictBytes closing closeSheet closeOutcome badCheck checkReads readsOutcome checkOutcome
+unfolding runGathering runBecoming runReadCheck runTag runOpenSet openOutcome setWith offeredSet offeredNotice offerTo putOutcome noticeOutcome joinSheets joinOutcome verdictBytes closing closeSheet closeOutcome badCheck checkReads readsOutcome checkOutcome enterOutcome offerOutcome tagOutcome
 runRefused = tt

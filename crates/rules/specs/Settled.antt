@@ -6,19 +6,22 @@ use native.Mathlib.Omega.{arith}
 use lib.ListN.{getD}
 use Rattle.words.specs.Words.{Bytes}
 use Rattle.rules.specs.declared.answer.Refusal.{Refusal}
-use Rattle.rules.specs.declared.answer.Refusal.the-variants.{RegisterIllFormed, SheetIllFormed, OfferIllFormed, WrongEpoch, WrongRoster, Spoiled, Incomplete, TooManyRows, BufferShort, CheckIllFormed}
+use Rattle.rules.specs.declared.answer.Refusal.the-variants.{RegisterIllFormed, SheetIllFormed, OfferIllFormed, WrongEpoch, WrongRoster, Spoiled, Incomplete, TooManyRows, BufferShort, CheckIllFormed, BadTag, KeyEntered, NinthRecord}
 use Rattle.rules.specs.declared.answer.Reason.{Reason}
 use Rattle.rules.specs.declared.answer.Reason.the-variants.{Gone, OtherCsn, TooNew}
+use Rattle.rules.specs.declared.desk.OpenSet.{OpenSet}
+use Rattle.rules.specs.declared.desk.Entered.{Entered}
+use Rattle.rules.specs.declared.desk.Entered.the-variants as entered
 use Rattle.rules.specs.declared.answer.Answer.{Answer}
 use Rattle.rules.specs.declared.answer.Answer.the-variants as answer
 use Rattle.rules.specs.declared.answer.Closed.{Closed}
 use Rattle.rules.specs.declared.answer.Closed.the-variants as closed
 use Rattle.rules.specs.declared.answer.Checked.{Checked}
 use Rattle.rules.specs.declared.answer.Checked.the-variants as checked
-use Rattle.rules.specs.Answers.{refusalNumber, reasonNumber, answerNumbers, closedNumbers, checkedNumbers}
+use Rattle.rules.specs.Answers.{refusalNumber, reasonNumber, answerNumbers, closedNumbers, checkedNumbers, enteredNumber}
 use Rattle.rules.specs.Refused.{Outcome, Closing}
 use Rattle.rules.specs.ReadCheck.{Finding}
-use Rattle.rules.specs.Promises.{Promise, ClosePromise, CheckPromise}
+use Rattle.rules.specs.Promises.{Promise, ClosePromise, CheckPromise, EnterPromise, OfferPromise}
 
 -- ---- an answer is told by its numbers
 
@@ -26,8 +29,8 @@ use Rattle.rules.specs.Promises.{Promise, ClosePromise, CheckPromise}
 abbrev refusalOf : ℕ → Refusal
 refusalOf n =
     getD
-    (RegisterIllFormed ∷ RegisterIllFormed ∷ SheetIllFormed ∷ OfferIllFormed ∷ WrongEpoch ∷ WrongRoster ∷ Spoiled ∷ Incomplete ∷ TooManyRows ∷ BufferShort ∷ [])
-    n CheckIllFormed
+    (RegisterIllFormed ∷ RegisterIllFormed ∷ SheetIllFormed ∷ OfferIllFormed ∷ WrongEpoch ∷ WrongRoster ∷ Spoiled ∷ Incomplete ∷ TooManyRows ∷ BufferShort ∷ CheckIllFormed ∷ BadTag ∷ KeyEntered ∷ [])
+    n NinthRecord
 
 refusal-back : (x : Refusal) → refusalOf (refusalNumber x) ≡ x
 refusal-back RegisterIllFormed = refl
@@ -40,6 +43,9 @@ refusal-back Incomplete = refl
 refusal-back TooManyRows = refl
 refusal-back BufferShort = refl
 refusal-back CheckIllFormed = refl
+refusal-back BadTag = refl
+refusal-back KeyEntered = refl
+refusal-back NinthRecord = refl
 
 pub same-refusal : (x y : Refusal) → refusalNumber x ≡ refusalNumber y → x ≡ y
 same-refusal x y e = sym (refusal-back x) ∙ ap refusalOf e ∙ refusal-back y
@@ -56,6 +62,9 @@ refusal-some Incomplete e = omega arith
 refusal-some TooManyRows e = omega arith
 refusal-some BufferShort e = omega arith
 refusal-some CheckIllFormed e = omega arith
+refusal-some BadTag e = omega arith
+refusal-some KeyEntered e = omega arith
+refusal-some NinthRecord e = omega arith
 
 abbrev reasonOf : ℕ → Reason
 reasonOf n = getD (Gone ∷ Gone ∷ OtherCsn ∷ []) n TooNew
@@ -103,6 +112,12 @@ same-checked (checked.Refused x) checked.Pass e = absurd (refusal-some x (sym (a
 same-checked (checked.Refused x) (checked.Fails j l q) e = absurd (refusal-some x (sym (ap (λ (x : Four). x .0) e)))
 same-checked (checked.Refused x) (checked.Refused y) e = ap checked.Refused (same-refusal x y (ap (λ (x : Four). x .0) e))
 
+same-entered : (a b : Entered) → enteredNumber a ≡ enteredNumber b → a ≡ b
+same-entered entered.Added entered.Added e = refl
+same-entered entered.Added (entered.Refused y) e = absurd (refusal-some y e)
+same-entered (entered.Refused x) entered.Added e = absurd (refusal-some x (sym e))
+same-entered (entered.Refused x) (entered.Refused y) e = ap entered.Refused (same-refusal x y e)
+
 -- ---- settled
 
 -- TWO OUTCOMES THAT THE ONE-BUFFER PROMISE ALLOWS ARE EQUAL
@@ -118,3 +133,13 @@ settled-closing o next verdicts {a} {b} p q =
 -- AND OF THE READ CHECK
 pub settled-check : (o : Outcome Finding) {a b : Checked} → CheckPromise o a → CheckPromise o b → a ≡ b
 settled-check o {a} {b} p q = same-checked a b (p .answered ∙ sym (q .answered))
+
+-- OF ENTERING
+pub settled-entering : (o : Outcome OpenSet) (before : OpenSet) {a b : Entered} {after after′ : OpenSet}
+    → EnterPromise o before a after → EnterPromise o before b after′ → (a ≡ b) × (after ≡ after′)
+settled-entering o before {a} {b} p q = (same-entered a b (p .answered ∙ sym (q .answered)), p .open-set ∙ sym (q .open-set))
+
+-- AND OF OFFERING
+pub settled-offering : (o : Outcome Bytes) (before : OpenSet) (out : Bytes) {a b : Answer} {after after′ : OpenSet} {out₁ out₂ : Bytes}
+    → OfferPromise o before out a after out₁ → OfferPromise o before out b after′ out₂ → (a ≡ b) × (after ≡ after′) × (out₁ ≡ out₂)
+settled-offering o before out p q = let s = settled o out (p .sheet) (q .sheet) in (s .0, p .open-set ∙ sym (q .open-set), s .1)

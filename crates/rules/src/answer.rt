@@ -1,8 +1,8 @@
-// What the operations answer. The numbers of document 01 for each case are the definitions in specs/Answers.antt.
+// What the operations answer. The documents' numbers for each case are the definitions in specs/Answers.antt.
 ghost use mathlib.Core.Path.{_≡_};
 ghost use Rattle.rules.specs.Answers.{refusalNumber, reasonNumber, verdictCode, verdictKey};
 
-// A variant for each row of 'What is refused'.
+// A variant for each row of 'What is refused', and for each refusal of document 02.
 pub enum Refusal {
     RegisterIllFormed,
     SheetIllFormed,
@@ -14,6 +14,9 @@ pub enum Refusal {
     TooManyRows,
     BufferShort,
     CheckIllFormed,
+    BadTag,
+    KeyEntered,
+    NinthRecord,
 }
 
 // Of an operation with one buffer: the length written at its start, or a refusal.
@@ -68,6 +71,9 @@ impl Refusal {
             Refusal::TooManyRows => 8,
             Refusal::BufferShort => 9,
             Refusal::CheckIllFormed => 10,
+            Refusal::BadTag => 11,
+            Refusal::KeyEntered => 12,
+            Refusal::NinthRecord => 13,
         }
     }
 }

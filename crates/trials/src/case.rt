@@ -13,6 +13,9 @@ use cases::run_join;
 use cases::run_notice;
 use cases::run_open;
 use cases::run_put;
+use desk_cases::run_enter;
+use desk_cases::run_offer;
+use desk_cases::run_tag;
 use read_cases::run_check;
 use read_cases::run_list;
 use words::get32;
@@ -54,7 +57,10 @@ fn operate<'a>(
         4 => run_join(first, second, out),
         5 => run_close(first, second, out, verdicts),
         6 => run_check(head, first, second, third),
-        _ => run_list(head, first, second, third),
+        7 => run_list(head, first, second, third),
+        8 => run_enter(head, first, second),
+        9 => run_offer(head, first, second, out),
+        _ => run_tag(head, out),
     }
 }
 

@@ -4,7 +4,7 @@
 //! beyond them. Rust's own rules see to it that a buffer lent for writing overlaps no other.
 
 use crate::reads::{Checked, Read, Reason};
-use crate::{sys, Refusal};
+use crate::{sys, RawOpenSet, Refusal};
 
 /// The least length of a buffer for a sheet.
 pub const SHEET_ROOM: usize = 9240;
@@ -12,6 +12,8 @@ pub const SHEET_ROOM: usize = 9240;
 pub const REGISTER_ROOM: usize = 28680;
 /// The least length of a buffer for verdicts.
 pub const VERDICT_ROOM: usize = 320;
+/// The length of a tag, and the least of a buffer for one.
+pub const TAG_ROOM: usize = 11;
 
 /// The lengths that closing wrote.
 #[derive(Clone, Copy, Debug, PartialEq, Eq, Hash)]
@@ -79,4 +81,19 @@ pub fn check(register: &[u8], mode: u8, lsn: u32, keys: &[u32], csns: &[u64]) ->
 /// The same with the reads as a list of entries.
 pub fn check_reads(register: &[u8], mode: u8, lsn: u32, reads: &[Read]) -> Result<Checked, Refusal> {
     checked(unsafe { sys::castorpedal_check_reads(register.as_ptr(), register.len(), mode, lsn, reads.as_ptr(), reads.len()) })
+}
+
+/// One record more in the open set, the station given by its tag. Refusals: 3, 11, 12, 13.
+pub fn desk_enter(set: &mut RawOpenSet, kind: u8, tag: &[u8], value: u64) -> Result<(), Refusal> {
+    Refusal::of(unsafe { sys::castorpedal_desk_enter(set, kind, tag.as_ptr(), tag.len(), value) })
+}
+
+/// The sheet with the open set put in, which is then empty. Refusals: 2, 3, 4, 5, 9.
+pub fn desk_offer(set: &mut RawOpenSet, sheet: &[u8], epoch: u32, sen: u32, csn: u64, out: &mut [u8]) -> Result<usize, Refusal> {
+    answer(unsafe { sys::castorpedal_desk_offer(set, sheet.as_ptr(), sheet.len(), epoch, sen, csn, out.as_mut_ptr(), out.len()) })
+}
+
+/// The tag of a key. Refusals: 11 key 0, then 9.
+pub fn desk_tag(key: u32, out: &mut [u8]) -> Result<usize, Refusal> {
+    answer(unsafe { sys::castorpedal_desk_tag(key, out.as_mut_ptr(), out.len()) })
 }

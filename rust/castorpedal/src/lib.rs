@@ -1,6 +1,7 @@
 //! The proved operations, for Rust: safe on every input.
 //!
-//! A [`Sheet`] gathers an epoch's write sets, and a [`Register`] closes the epoch with it. Both own their bytes and are always well-formed.
+//! A [`Sheet`] gathers an epoch's write sets, and a [`Register`] closes the epoch with it. Both own their bytes and are always well-formed. At
+//! the desk a clerk types a set into an [`OpenSet`], station by station, each by its [`tag`], and offers it to the sheet.
 //! An operation that cannot be done answers a [`Refusal`] and changes nothing; `docs/FORMS.md` has the layouts and what to do about each.
 //!
 //! ```
@@ -24,13 +25,14 @@
 //! # Ok::<(), Refusal>(())
 //! ```
 //!
-//! [`open`], [`put`], [`notice`], [`join`], [`close`], [`check`] and [`check_reads`] are the same operations on slices of any length, for
-//! callers with buffers of their own. They answer the length that they wrote; the bytes after it stay, and a refusal leaves every lent byte
-//! as it was.
+//! [`open`], [`put`], [`notice`], [`join`], [`close`], [`check`], [`check_reads`], [`desk_enter`], [`desk_offer`] and [`desk_tag`] are the same
+//! operations on slices of any length, and on any [`RawOpenSet`], for callers with buffers of their own. Those that write to a buffer answer the
+//! length that they wrote; the bytes after it stay, and a refusal leaves every lent byte as it was.
 #![deny(missing_docs, unsafe_code)]
 
 #[allow(unsafe_code)]
 mod calls;
+mod desk;
 mod reads;
 pub mod record;
 mod refusal;
@@ -40,8 +42,11 @@ mod sys;
 mod verdict;
 mod words;
 
-pub use calls::{check, check_reads, close, join, notice, open, put, Closed, REGISTER_ROOM, SHEET_ROOM, VERDICT_ROOM};
+pub use calls::{check, check_reads, close, desk_enter, desk_offer, desk_tag, join, notice, open, put, Closed};
+pub use calls::{REGISTER_ROOM, SHEET_ROOM, TAG_ROOM, VERDICT_ROOM};
+pub use desk::{tag, OpenSet, RawOpenSet};
 pub use reads::{Checked, Read, Reason};
+pub use record::Record;
 pub use refusal::Refusal;
 pub use register::{Register, Row};
 pub use sheet::Sheet;

@@ -1,17 +1,17 @@
-//! Why an operation is refused: document 01's table 'What is refused'.
+//! Why an operation is refused: document 01's table 'What is refused', and what document 02 adds to it.
 
 use crate::sys::unknown;
 use std::error::Error;
 use std::fmt;
 
-/// Why an operation was refused; the smallest number that applies is given. It is displayed in document 01's words.
+/// Why an operation was refused; the smallest number that applies is given, but of a tag 11 before 9. It is displayed in the documents' words.
 #[derive(Clone, Copy, Debug, PartialEq, Eq, PartialOrd, Ord, Hash)]
 pub enum Refusal {
     /// 1: the register is ill-formed.
     RegisterIllFormed = 1,
     /// 2: the sheet is ill-formed.
     SheetIllFormed = 2,
-    /// 3: the offered set or notice is ill-formed.
+    /// 3: the offered set or notice is ill-formed; at the desk the open set, the kind or the value.
     OfferIllFormed = 3,
     /// 4: epoch 0, another epoch than the sheet's, or an epoch that does not follow the snapshot.
     WrongEpoch = 4,
@@ -27,10 +27,16 @@ pub enum Refusal {
     BufferShort = 9,
     /// 10: a read check's mode, keys, number of entries or lsn.
     CheckIllFormed = 10,
+    /// 11: no right tag, or a key that no station has.
+    BadTag = 11,
+    /// 12: the open set has a record of that key.
+    KeyEntered = 12,
+    /// 13: the open set has eight records.
+    NinthRecord = 13,
 }
 
 impl Refusal {
-    /// Document 01's number, 1 to 10.
+    /// The documents' number, 1 to 13.
     pub fn number(self) -> u32 {
         self as u32
     }
@@ -49,6 +55,9 @@ impl Refusal {
             8 => Refusal::TooManyRows,
             9 => Refusal::BufferShort,
             10 => Refusal::CheckIllFormed,
+            11 => Refusal::BadTag,
+            12 => Refusal::KeyEntered,
+            13 => Refusal::NinthRecord,
             _ => unknown("refusal", code),
         })
     }
@@ -59,16 +68,19 @@ impl fmt::Display for Refusal {
         f.write_str(match self {
             Refusal::RegisterIllFormed => "register ill-formed",
             Refusal::SheetIllFormed => "sheet ill-formed",
-            Refusal::OfferIllFormed => "offered set or notice ill-formed",
+            Refusal::OfferIllFormed => "offered set or notice ill-formed; desk: open set, kind or value ill-formed",
             Refusal::WrongEpoch => "open: epoch 0; put, notice, join: epochs differ; close: epoch is not s + 1",
             Refusal::WrongRoster => "open: roster 0; put, notice: master not in roster; join: rosters differ",
             Refusal::Spoiled => "close: sheet spoiled",
             Refusal::Incomplete => "close: a roster master has no notice, or fewer sets than it says",
             Refusal::TooManyRows => "close: next register would have over 1,024 rows",
-            Refusal::BufferShort => "an output buffer shorter than 9,240 (sheet), 28,680 (register), 320 (verdicts)",
+            Refusal::BufferShort => "an output buffer shorter than 9,240 (sheet), 28,680 (register), 320 (verdicts), 11 (tag)",
             Refusal::CheckIllFormed => {
                 "read check: mode not 1 to 3, a key 0, over 32 entries, or (in every mode) lsn above the snapshot"
             }
+            Refusal::BadTag => "bad tag or key out of range",
+            Refusal::KeyEntered => "key already in the open set",
+            Refusal::NinthRecord => "a ninth record",
         })
     }
 }
@@ -79,18 +91,21 @@ impl Error for Refusal {}
 mod tests {
     use super::*;
 
-    /// The table 'What is refused', its second column.
-    const WORDS: [&str; 10] = [
+    /// The table 'What is refused', its second column, and document 02's words for the desk.
+    const WORDS: [&str; 13] = [
         "register ill-formed",
         "sheet ill-formed",
-        "offered set or notice ill-formed",
+        "offered set or notice ill-formed; desk: open set, kind or value ill-formed",
         "open: epoch 0; put, notice, join: epochs differ; close: epoch is not s + 1",
         "open: roster 0; put, notice: master not in roster; join: rosters differ",
         "close: sheet spoiled",
         "close: a roster master has no notice, or fewer sets than it says",
         "close: next register would have over 1,024 rows",
-        "an output buffer shorter than 9,240 (sheet), 28,680 (register), 320 (verdicts)",
+        "an output buffer shorter than 9,240 (sheet), 28,680 (register), 320 (verdicts), 11 (tag)",
         "read check: mode not 1 to 3, a key 0, over 32 entries, or (in every mode) lsn above the snapshot",
+        "bad tag or key out of range",
+        "key already in the open set",
+        "a ninth record",
     ];
 
     #[test]
@@ -103,9 +118,9 @@ mod tests {
     }
 
     #[test]
-    #[should_panic(expected = "refusal 11: library and wrapper do not belong together")]
+    #[should_panic(expected = "refusal 14: library and wrapper do not belong together")]
     fn an_unknown_code_is_no_refusal() {
-        let _ = Refusal::of(11);
+        let _ = Refusal::of(14);
     }
 
     #[test]

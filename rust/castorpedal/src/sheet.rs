@@ -94,7 +94,7 @@ impl TryFrom<&[u8]> for Sheet {
 }
 
 /// The sheet that an operation writes.
-fn written(operation: impl FnOnce(&mut [u8]) -> Result<usize, Refusal>) -> Result<Sheet, Refusal> {
+pub(crate) fn written(operation: impl FnOnce(&mut [u8]) -> Result<usize, Refusal>) -> Result<Sheet, Refusal> {
     let mut out = [0; SHEET_ROOM];
     let len = operation(&mut out)?;
     Ok(Sheet { bytes: out[..len].to_vec() })

@@ -1,5 +1,5 @@
 // What include/castorpedal.h declares. Nothing checks these lines against the library, so they are few and plain.
-use crate::Read;
+use crate::{RawOpenSet, Read};
 
 #[repr(C)]
 pub struct Answer {
@@ -43,9 +43,14 @@ extern "C" {
     pub fn castorpedal_check_reads(
         register: *const u8, register_len: usize, mode: u8, lsn: u32, reads: *const Read, reads_len: usize,
     ) -> Checked;
+    pub fn castorpedal_desk_enter(set: *mut RawOpenSet, kind: u8, tag: *const u8, tag_len: usize, value: u64) -> u32;
+    pub fn castorpedal_desk_offer(
+        set: *mut RawOpenSet, sheet: *const u8, sheet_len: usize, epoch: u32, sen: u32, csn: u64, out: *mut u8, out_len: usize,
+    ) -> Answer;
+    pub fn castorpedal_desk_tag(key: u32, out: *mut u8, out_len: usize) -> Answer;
 }
 
-/// A number that document 01 does not have is an answer of another library than this one.
+/// A number that the documents do not have is an answer of another library than this one.
 pub fn unknown(what: &str, number: u32) -> ! {
     panic!("the library answered {what} {number}: library and wrapper do not belong together")
 }

@@ -1,5 +1,5 @@
-//! The two examples, built and run as a user does it: `examples/close.c` with the header and the library, and `examples/close.rs`. Both
-//! close example A and print the same.
+//! The examples, built and run as a user does it: `examples/close.c` and `desk.c` with the header and the library, `examples/close.rs` and
+//! `desk.rs`. The first of each close example A and print the same; so do the others, which type at the desk.
 
 mod machine;
 
@@ -44,11 +44,40 @@ fn closes_example_a_from_c() {
     assert_eq!(run(compiled(&top().join("examples/close.c"), "close_c")), (expected(), Some(0)));
 }
 
+/// The example of a name, built and run by cargo.
+fn example(name: &str) -> Command {
+    let mut cargo = Command::new(env!("CARGO"));
+    cargo.args(["run", "--offline", "--quiet", "--example", name]).current_dir(top().join("rust"));
+    cargo
+}
+
 #[test]
 fn closes_example_a_from_rust() {
-    let mut cargo = Command::new(env!("CARGO"));
-    cargo.args(["run", "--offline", "--quiet", "--example", "close"]).current_dir(top().join("rust"));
-    assert_eq!(run(cargo), (expected(), Some(0)));
+    assert_eq!(run(example("close")), (expected(), Some(0)));
+}
+
+/// The records in key order; the set's verdict; the one row that is left, with the set's mark.
+const TYPED: &str = "typed 3 20 0\ntyped 1 572 6\nset 3 commit 0\nrow 572 6 1 1 3\n";
+
+#[test]
+fn types_at_the_desk_from_c() {
+    assert_eq!(run(compiled(&top().join("examples/desk.c"), "desk_c")), (TYPED.to_string(), Some(0)));
+}
+
+#[test]
+fn types_at_the_desk_from_rust() {
+    assert_eq!(run(example("desk")), (TYPED.to_string(), Some(0)));
+}
+
+/// The ten lines that README.md shows stand in the example, in one piece.
+#[test]
+fn the_ten_lines_are_the_examples() {
+    let page = read_to_string(top().join("README.md")).unwrap();
+    let (_, section) = page.split_once("\n## The desk from Rust in ten lines\n").unwrap();
+    let section = section.split("\n## ").next().unwrap();
+    let lines: Vec<&str> = section.lines().filter(|line| line.starts_with("    ")).collect();
+    assert_eq!(lines.len(), 10);
+    assert!(read_to_string(top().join("examples/desk.rs")).unwrap().contains(&lines.join("\n")));
 }
 
 /// The C example with one number changed, from the register's to the read check's: the refusal ends the run.

@@ -9,6 +9,18 @@ pub enum Kind {
     Delete = 3,
 }
 
+impl Kind {
+    /// The kind that has the number, where a record of it may have the value: that of a delete is 0.
+    pub fn read(number: u8, value: u64) -> Option<Kind> {
+        match number {
+            1 => Some(Kind::Change),
+            2 => Some(Kind::Insert),
+            3 if value == 0 => Some(Kind::Delete),
+            _ => None,
+        }
+    }
+}
+
 #[derive(Clone, Copy, Debug, PartialEq, Eq, PartialOrd, Ord)]
 pub struct Record {
     pub kind: Kind,
@@ -51,15 +63,10 @@ pub fn read_records(bytes: &[u8]) -> Option<Vec<Record>> {
     let mut records = Vec::new();
     let mut last = 0;
     for r in bytes.chunks(16) {
-        let kind = match r[0] {
-            1 => Kind::Change,
-            2 => Kind::Insert,
-            3 => Kind::Delete,
-            _ => return None,
-        };
         let key = number(&r[4..8]) as u32;
         let value = number(&r[8..16]);
-        if r[1] != 0 || r[2] != 0 || r[3] != 0 || key <= last || (kind == Kind::Delete && value != 0) {
+        let kind = Kind::read(r[0], value)?;
+        if r[1] != 0 || r[2] != 0 || r[3] != 0 || key <= last {
             return None;
         }
         last = key;

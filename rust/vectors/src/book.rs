@@ -1,7 +1,7 @@
 //! A case file as it is filled: each call adds a case and the line that is printed of it, and hands back what was written.
 
 use crate::forms::{keys_bytes, csns_bytes};
-use paper::{Finding, Refusal, REGISTER_ROOM, SHEET_ROOM, VERDICT_ROOM};
+use paper::{Finding, OpenSet, Refusal, REGISTER_ROOM, SHEET_ROOM, TAG_ROOM, VERDICT_ROOM};
 
 pub struct Book {
     pub name: &'static str,
@@ -33,6 +33,16 @@ fn shown(bytes: &[u8]) -> String {
     }
 }
 
+/// What is printed of an answer, where something is told of a success.
+fn told<T>(answer: &Result<T, Refusal>, success: impl Fn(&T) -> String) -> String {
+    answer.as_ref().map(success).unwrap_or_else(|n| format!("refused {n}"))
+}
+
+/// What is printed of an operation that writes one buffer.
+fn wrote(answer: &Result<Vec<u8>, Refusal>) -> String {
+    told(answer, |b| format!("wrote {}{}", b.len(), shown(b)))
+}
+
 impl Book {
     pub fn new(name: &'static str) -> Book {
         Book { name, data: Vec::new(), lines: String::new(), room: 0, verdict_room: 0 }
@@ -51,7 +61,7 @@ impl Book {
         rooms
     }
 
-    fn add(&mut self, step: &str, case: Case, answer: Result<String, Refusal>) {
+    fn add(&mut self, step: &str, case: Case, answer: &str) {
         let label = format!("{:<24}", format!("{} {step}", self.name));
         assert!(label.len() == 24 && label.ends_with(" "), "{label} is too long");
         assert!(!self.lines.contains(&label), "{label} stands there twice");
@@ -64,13 +74,12 @@ impl Book {
             self.data.extend((n as u32).to_le_bytes());
         }
         self.data.extend(case.inputs.concat());
-        let answer = answer.unwrap_or_else(|n| format!("refused {n}"));
         self.lines += &format!("{label}{answer}\n");
     }
 
     /// A case that writes a sheet: the sheet, or no byte where it is refused.
     fn sheet(&mut self, step: &str, case: Case, answer: Result<Vec<u8>, Refusal>) -> Vec<u8> {
-        self.add(step, case, answer.as_ref().map(|b| format!("wrote {}{}", b.len(), shown(b))).map_err(|n| *n));
+        self.add(step, case, &wrote(&answer));
         answer.unwrap_or_default()
     }
 
@@ -104,11 +113,11 @@ impl Book {
         let (room, verdict_room) = self.rooms(REGISTER_ROOM, VERDICT_ROOM);
         let case = Case { operation: 5, inputs: [register, sheet, &[]], room, verdict_room, ..Case::default() };
         let answer = paper::close(register, sheet, room, verdict_room);
-        let told = |c: &paper::Closing| {
+        let both = |c: &paper::Closing| {
             let (register, verdicts) = (&c.register, &c.verdicts);
             format!("wrote {}{} and {}{}", register.len(), shown(register), verdicts.len(), shown(verdicts))
         };
-        self.add(step, case, answer.as_ref().map(told).map_err(|n| *n));
+        self.add(step, case, &told(&answer, both));
         answer.map(|c| c.register).unwrap_or_default()
     }
 
@@ -123,10 +132,35 @@ impl Book {
     fn checked(&mut self, operation: u8, step: &str, register: &[u8], mode: u8, lsn: u32, keys: &[u32], csns: &[u64]) {
         let (second, third) = (keys_bytes(keys), csns_bytes(csns));
         let case = Case { operation, epoch: mode.into(), number: lsn, inputs: [register, &second, &third], ..Case::default() };
-        let told = |f: Finding| match f.reason {
+        let found = |f: &Finding| match f.reason {
             0 => "pass".into(),
             _ => format!("fails {} {} {}", f.index, f.key, f.reason),
         };
-        self.add(step, case, paper::check(register, mode, lsn, keys, csns).map(told));
+        self.add(step, case, &told(&paper::check(register, mode, lsn, keys, csns), found));
+    }
+
+    /// The open set after it.
+    pub fn enter(&mut self, step: &str, set: &OpenSet, kind: u8, tag: &[u8], value: u64) -> OpenSet {
+        let mut after = *set;
+        let answer = paper::enter(&mut after, kind, tag, value);
+        let case = Case { operation: 8, epoch: kind.into(), csn: value, inputs: [&set.bytes(), tag, &[]], ..Case::default() };
+        self.add(step, case, &(told(&answer, |_| "entered".into()) + &shown(&after.bytes())));
+        after
+    }
+
+    /// The sheet, or no byte where the offer is refused.
+    pub fn offer(&mut self, step: &str, set: &OpenSet, sheet: &[u8], epoch: u32, sen: u32, csn: u64) -> Vec<u8> {
+        let (room, _) = self.rooms(SHEET_ROOM, 0);
+        let mut after = *set;
+        let answer = paper::offer(&mut after, sheet, epoch, sen, csn, room);
+        let case = Case { operation: 9, epoch, number: sen, csn, inputs: [sheet, &set.bytes(), &[]], room, ..Case::default() };
+        self.add(step, case, &(wrote(&answer) + " set" + &shown(&after.bytes())));
+        answer.unwrap_or_default()
+    }
+
+    pub fn tag(&mut self, step: &str, key: u32) {
+        let (room, _) = self.rooms(TAG_ROOM, 0);
+        let case = Case { operation: 10, epoch: key, room, ..Case::default() };
+        self.add(step, case, &wrote(&paper::tag(key, room)));
     }
 }

@@ -4,7 +4,7 @@ use crate::forms::{change, record, register_r, with, ROSTER};
 use crate::Book;
 use paper::{Mark, Register, Row, SHEET_ROOM};
 
-fn opened(epoch: u32, roster: u16) -> Vec<u8> {
+pub fn opened(epoch: u32, roster: u16) -> Vec<u8> {
     paper::open(epoch, roster, SHEET_ROOM).unwrap()
 }
 
@@ -22,7 +22,7 @@ fn three() -> Vec<u8> {
 }
 
 /// A spoiled sheet.
-fn spoiled() -> Vec<u8> {
+pub fn spoiled() -> Vec<u8> {
     put(&put(&opened(1, ROSTER), 1, 3, &change(10, 6)), 1, 3, &change(10, 7))
 }
 

@@ -1,14 +1,18 @@
-//! Example A in docs/FORMS.md is what `paper` writes, byte by byte, with each field where the page's tables place it.
+//! Example A and what is typed at the desk in docs/FORMS.md are what `paper` writes, byte by byte, with each field where the page's tables
+//! place it.
 
 mod page;
 
 use page::{page, rows, under};
-use paper::{Mark, Register, Row, REGISTER_ROOM, SHEET_ROOM, VERDICT_ROOM};
+use paper::{Mark, OpenSet, Register, Row, REGISTER_ROOM, SHEET_ROOM, TAG_ROOM, VERDICT_ROOM};
 use std::collections::BTreeMap;
 use std::fs;
 
 /// Example A has two sets.
 const SETS: usize = 2;
+
+/// The open set has two records.
+const RECORDS: usize = 2;
 
 /// A field as the tables have it: its place, and how many bytes it takes.
 struct Field<'a> {
@@ -18,7 +22,7 @@ struct Field<'a> {
 
 fn fields(page: &str) -> BTreeMap<&str, Field<'_>> {
     let mut fields = BTreeMap::new();
-    for heading in ["### Register", "### Sheet", "### Record", "### Verdict"] {
+    for heading in ["### Register", "### Sheet", "### Record", "### Verdict", "### Open set", "### Tag"] {
         for row in rows(under(page, heading), 5) {
             let (size, name) = (row[1].parse().unwrap(), row[3].trim_matches('`'));
             assert!(row[2] == "bytes" || row[2] == format!("u{}", 8 * size), "{name} has the type {} and {size} bytes", row[2]);
@@ -26,17 +30,19 @@ fn fields(page: &str) -> BTreeMap<&str, Field<'_>> {
         }
     }
     let parts = fields.iter().filter(|(name, _)| name.starts_with("record."));
-    assert_eq!(fields["record"].size, parts.map(|(_, field)| field.size).sum(), "the size of a record");
+    let size: usize = parts.map(|(_, field)| field.size).sum();
+    assert_eq!((fields["record"].size, fields["open.record"].size), (size, size), "the size of a record");
     fields
 }
 
-/// The offset that a place such as `24 + 16n + 16j` is: n is the number of sets, another letter counts from 0.
+/// The offset that a place such as `24 + 16n + 16j` is: n is the number of sets and c of records typed, another letter counts from 0.
 fn offset(place: &str, count: usize) -> usize {
     let term = |term: &str| {
         let digits = term.trim_end_matches(char::is_alphabetic);
         let times = match &term[digits.len()..] {
             "" => 1,
             "n" => SETS,
+            "c" => RECORDS,
             _ => count,
         };
         times * if digits.is_empty() { 1 } else { digits.parse().unwrap() }
@@ -58,8 +64,9 @@ fn line(line: &str) -> (usize, Vec<Told<'_>>) {
     (parts[0].parse().unwrap(), bytes.into_iter().zip(names).zip(values).map(|((b, n), v)| (b, n, v)).collect())
 }
 
-/// The dump under a heading has exactly the bytes, each line at its offset, and each field at its table's place with its value.
-fn tells(heading: &str, bytes: &[u8]) {
+/// The dump under a heading has exactly the bytes, each line at its offset, and each field at its table's place with its value. Records are
+/// those of the sheet or of the open set.
+fn tells(heading: &str, record: &str, bytes: &[u8]) {
     let page = page();
     let fields = fields(&page);
     let mut told: Vec<u8> = Vec::new();
@@ -72,7 +79,7 @@ fn tells(heading: &str, bytes: &[u8]) {
             assert!(group.len() % field.size == 0, "the size of {name}: {text}");
             for one in group.chunks(field.size) {
                 let count = seen.entry(name).or_default();
-                let start = if name.starts_with("record.") { offset(fields["record"].place, *count) } else { 0 };
+                let start = if name.starts_with("record.") { offset(fields[record].place, *count) } else { 0 };
                 assert_eq!(told.len(), start + offset(field.place, *count), "the place of {name}: {text}");
                 assert_eq!(value, one.iter().rev().fold(0, |n, b| n << 8 | u64::from(*b)), "the value of {name}: {text}");
                 *count += 1;
@@ -100,10 +107,21 @@ fn sheet() -> Vec<u8> {
 #[test]
 fn the_dump_is_example_a() {
     let closing = paper::close(&register_r(), &sheet(), REGISTER_ROOM, VERDICT_ROOM).unwrap();
-    tells("### Register R", &register_r());
-    tells("### The sheet", &sheet());
-    tells("### The next register", &closing.register);
-    tells("### The verdicts", &closing.verdicts);
+    tells("### Register R", "record", &register_r());
+    tells("### The sheet", "record", &sheet());
+    tells("### The next register", "record", &closing.register);
+    tells("### The verdicts", "record", &closing.verdicts);
+}
+
+#[test]
+fn the_dump_is_what_is_typed() {
+    let tag = |key| paper::tag(key, TAG_ROOM).unwrap();
+    let mut set = OpenSet::EMPTY;
+    paper::enter(&mut set, 1, &tag(572), 6).unwrap();
+    paper::enter(&mut set, 3, &tag(20), 0).unwrap();
+    assert_eq!(set.count as usize, RECORDS);
+    tells("### The tag of 572", "open.record", &tag(572));
+    tells("### The open set", "open.record", &set.bytes());
 }
 
 /// The file that the page names has R and two sheets of 56 bytes that join to the dump's.

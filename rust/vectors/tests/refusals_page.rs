@@ -5,7 +5,10 @@ mod page;
 use page::{page, read, rows, under};
 use std::collections::BTreeSet;
 
-/// Numbers 1 to 10 in order, each with an anchor in its first row and nowhere else.
+/// The last number.
+const LAST: usize = 13;
+
+/// Numbers 1 to 13 in order, each with an anchor in its first row and nowhere else.
 #[test]
 fn refusals_stand_in_order() {
     let page = page();
@@ -16,14 +19,15 @@ fn refusals_stand_in_order() {
             assert_eq!(row[0], format!("<a id=\"refusal-{last}\"></a>{last}"));
         }
     }
-    assert_eq!(last, 10);
-    assert_eq!(page.matches("<a id=").count(), 10);
+    assert_eq!(last, LAST);
+    assert_eq!(page.matches("<a id=").count(), LAST);
 }
 
 /// Which refusals each operation gives in the cases, and the closing program on the inputs of `lessons`.
 fn given() -> BTreeSet<(&'static str, u32)> {
-    let names = ["open", "put", "notice", "join", "close", "check", "check_reads"];
-    let number = |line: &str| line.rsplit_once("refused ").map(|(_, n)| n.parse().unwrap());
+    let names = ["open", "put", "notice", "join", "close", "check", "check_reads", "desk_enter", "desk_offer", "desk_tag"];
+    // the open set may follow
+    let number = |line: &str| line.rsplit_once("refused ").map(|(_, rest)| rest.split(' ').next().unwrap().parse().unwrap());
     let mut given = BTreeSet::new();
     for book in vectors::books() {
         let mut data = &book.data[..];
@@ -44,7 +48,7 @@ fn operations_give_these_refusals() {
     let page = page();
     let text = under(&page, "## Refusals");
     let mut matrix = BTreeSet::new();
-    for row in rows(text, 11) {
+    for row in rows(text, 1 + LAST) {
         for (n, cell) in (1..).zip(&row[1..]).filter(|(_, cell)| !cell.is_empty()) {
             assert_eq!(*cell, n.to_string(), "the row of {}", row[0]);
             matrix.extend(row[0].split(", ").map(|name| (name, n)));
@@ -62,7 +66,7 @@ fn operations_give_these_refusals() {
 fn links_lead_somewhere() {
     let page = page();
     let headings = page.lines().filter_map(|line| line.strip_prefix("## ")).map(|h| h.to_lowercase().replace(' ', "-"));
-    let anchors: BTreeSet<String> = headings.chain((1..=10).map(|n| format!("refusal-{n}"))).collect();
+    let anchors: BTreeSet<String> = headings.chain((1..=LAST).map(|n| format!("refusal-{n}"))).collect();
     for (name, sign) in [("README.md", "(docs/FORMS.md#"), ("docs/LESSONS.md", "(FORMS.md#"), ("docs/FORMS.md", "(#")] {
         let other = read(name);
         let links: Vec<&str> = other.split(sign).skip(1).map(|rest| rest.split(')').next().unwrap()).collect();

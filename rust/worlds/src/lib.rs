@@ -1,5 +1,6 @@
 //! Seeded cases for the tests and the benchmark: few keys and few csns, so that sets meet; bytes that are sometimes damaged.
 
+pub mod desk;
 mod rng;
 
 use paper::{Mark, Register, Row, SHEET_ROOM};

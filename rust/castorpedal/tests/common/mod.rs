@@ -1,6 +1,8 @@
-//! Calls that compare the proved library with the paper: the answer and every byte of every lent buffer.
+//! Calls that compare the proved library with the paper: the answer and every byte of every lent buffer and open set.
+#![allow(dead_code)]
 
 use castorpedal as lib;
+use paper::OpenSet;
 use worlds::Rng;
 
 /// What an operation on one buffer must leave: the bytes at its start and all else as it was, or at a refusal all as it was.
@@ -88,6 +90,53 @@ impl Buffers {
                 None
             }
         }
+    }
+}
+
+/// An open set, between bytes that are nobody's to write.
+#[repr(C)]
+#[derive(Debug, PartialEq, Eq)]
+struct Fenced {
+    before: [u8; 32],
+    set: lib::RawOpenSet,
+    behind: [u8; 32],
+}
+
+fn fenced(set: &OpenSet) -> Fenced {
+    Fenced { before: [0xa5; 32], set: lib::RawOpenSet { count: set.count, records: set.records }, behind: [0x5a; 32] }
+}
+
+/// The paper's answer; the open set is then as both leave it.
+pub fn enter(set: &mut OpenSet, kind: u8, tag: &[u8], value: u64) -> Result<(), u32> {
+    let mut lent = fenced(set);
+    let got = lib::desk_enter(&mut lent.set, kind, tag, value);
+    let before = *set;
+    let expected = paper::enter(set, kind, tag, value);
+    assert_eq!(got.map_err(|r| r as u32), expected, "{before:?} {kind} {tag:?} {value}");
+    assert_eq!(lent, fenced(set), "the open set");
+    expected
+}
+
+impl Buffers {
+    /// The paper's answer; the open set is then as both leave it.
+    pub fn offer(
+        &mut self, rng: &mut Rng, set: &mut OpenSet, sheet: &[u8], epoch: u32, sen: u32, csn: u64,
+    ) -> Result<Vec<u8>, u32> {
+        let n = self.lend(rng, lib::SHEET_ROOM);
+        let mut lent = fenced(set);
+        let got = lib::desk_offer(&mut lent.set, sheet, epoch, sen, csn, &mut self.out[..n]);
+        let expected = paper::offer(set, sheet, epoch, sen, csn, n);
+        one_buffer(expected.clone(), &self.noise[..n], got, &self.out[..n]);
+        assert_eq!(lent, fenced(set), "the open set");
+        expected
+    }
+
+    pub fn tag(&mut self, rng: &mut Rng, key: u32) -> Result<Vec<u8>, u32> {
+        let n = self.lend(rng, lib::TAG_ROOM);
+        let got = lib::desk_tag(key, &mut self.out[..n]);
+        let expected = paper::tag(key, n);
+        one_buffer(expected.clone(), &self.noise[..n], got, &self.out[..n]);
+        expected
     }
 }
 

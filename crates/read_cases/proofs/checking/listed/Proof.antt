@@ -59,7 +59,7 @@ use Rattle.reads.proofs.check_reads as check
 use Rattle.reads.proofs.check_reads.Symbol as check-def
 use Rattle.reads.proofs.check_reads.Symbol.{name as #reads·check-reads}
 use Rattle.reads.proofs.check_reads.Met as check-thm
-use Rattle.read_cases.proofs.Local.{lies, stands}
+use Rattle.cases.specs.Local.{lies, stands}
 use Rattle.read_cases.proofs.checking.listed.Key.{name as #cases·checking·listed}
 use Rattle.read_cases.proofs.checking.listed as li
 use Rattle.read_cases.proofs.checking.listed.Statement as stated

@@ -1,0 +1,3 @@
+pub mod OpenLaws
+pub mod SearchLaws
+pub mod AmongLaws
