@@ -1,4 +1,5 @@
 // The closing program on standard input: its text goes to standard output.
+#![tactic(auto)]
 use report::REPORT_ROOM;
 
 fn main() {

@@ -1,4 +1,5 @@
 // Closing an epoch, over the forms' promises alone.
+#![tactic(auto)]
 mod epoch;
 mod verdicts;
 

@@ -1,4 +1,5 @@
 // The desk's operations, run on the numbers and the inputs of a case.
+#![tactic(auto)]
 mod bridges;
 mod sets;
 mod visits;

@@ -1,4 +1,5 @@
 // Gathering: open, put and notice, over the forms' promises alone.
+#![tactic(auto)]
 mod offer;
 mod one;
 mod opening;

@@ -1,4 +1,5 @@
 // The closing program's input: a register, and the sheet of all sheets joined.
+#![tactic(auto)]
 mod join;
 mod reading;
 

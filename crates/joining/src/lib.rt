@@ -1,4 +1,5 @@
 // Joining two sheets: the sheet of both sheets' offers, written straight into the lent bytes, over the forms' promises alone.
+#![tactic(auto)]
 mod held;
 mod joined;
 

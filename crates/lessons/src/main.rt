@@ -1,5 +1,6 @@
 // The closing program on the inputs of docs/LESSONS.md, and on inputs that end early or are refused: each file's name, and what is
 // printed of it.
+#![tactic(auto)]
 use report::REPORT_ROOM;
 
 fn run_file(name: &[u8]) {

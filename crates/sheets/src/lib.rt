@@ -1,4 +1,5 @@
 // An examined sheet, read and written, and how long one is in a stream.
+#![tactic(auto)]
 mod reading;
 mod stream;
 mod writing;

@@ -1,4 +1,5 @@
 // Station tags: read, and written. What they are is said in `rules` specs/Tag.antt.
+#![tactic(auto)]
 mod reading;
 mod table;
 mod writing;

@@ -1,4 +1,5 @@
 // Runs the cases of the files that its arguments name, and prints a line of each. The layout of a case stands in rust/vectors.
+#![tactic(auto)]
 mod case;
 
 use case::run_case;

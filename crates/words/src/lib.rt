@@ -1,4 +1,6 @@
 // Little-endian words of 16, 32 and 64 bits in lent bytes, read and written at an offset, and a run of bytes copied.
+#![tactic(auto)]
+
 ghost use Rattle.std.specs.Prelude.{◌≡◌, ◌+◌, ◌≤◌, length};
 ghost use Rattle.words.specs.Words.{le, word, part, stored};
 
