@@ -18,7 +18,7 @@ module _ {A : Type 0} (d : A) where
   at_mem (x ∷ xs) zero h = Memᴰ.head refl
   at_mem (x ∷ xs) (suc i) h = Memᴰ.tail (at_mem xs i (omega arith))
 
-  pub mem-at : {xs : List A} {x : A} → Memᴰ x xs → (i : ℕ) × (i < length xs) × (get_or xs i d ≡ x)
+  pub mem-at : {x : A} {xs : List A} → Memᴰ x xs → (i : ℕ) × (i < length xs) × (get_or xs i d ≡ x)
   mem-at (Memᴰ.head e) = (0, omega arith, sym e)
   mem-at (Memᴰ.tail m) = let r = mem-at m in let h = r.1 in (suc r.0, omega arith, r.2)
 

@@ -3,7 +3,7 @@ ghost use Rattle.std.specs.Prelude.{◌≡◌};
 ghost use Rattle.rules.specs.Answers.{refusal_number, reason_number, verdict_code, verdict_key};
 
 // A variant for each row of 'What is refused', and for each refusal of document 02.
-#[derive(Drop)]
+#[derive(Clone, Copy)]
 pub enum Refusal {
     RegisterIllFormed,
     SheetIllFormed,
@@ -21,21 +21,21 @@ pub enum Refusal {
 }
 
 // Of an operation with one buffer: the length written at its start, or a refusal.
-#[derive(Drop)]
+#[derive(Clone, Copy)]
 pub enum Answer {
     Wrote(usize),
     Refused(Refusal),
 }
 
 // Of closing: the lengths of the next register and of the verdicts.
-#[derive(Drop)]
+#[derive(Clone, Copy)]
 pub enum Closed {
     Wrote { register: usize, verdicts: usize },
     Refused(Refusal),
 }
 
 // Why the read check fails an entry.
-#[derive(Drop)]
+#[derive(Clone, Copy)]
 pub enum Reason {
     Gone,
     OtherCsn,
@@ -43,7 +43,7 @@ pub enum Reason {
 }
 
 // Of the read check: the first failing entry's index and key, and why.
-#[derive(Drop)]
+#[derive(Clone, Copy)]
 pub enum Checked {
     Pass,
     Fails {
@@ -55,7 +55,7 @@ pub enum Checked {
 }
 
 // Of one set at closing, with the smallest key lost or found wrong.
-#[derive(Drop)]
+#[derive(Clone, Copy)]
 pub enum Verdict {
     Commit,
     Lost(u32),

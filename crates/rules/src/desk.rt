@@ -6,14 +6,14 @@ use crate::answer::Refusal;
 
 // `count` records of 16 bytes as in a sheet's bodies, in key order, and zero bytes behind them.
 #[repr(C)]
-#[derive(Drop)]
+#[derive(Clone, Copy)]
 pub struct OpenSet {
     pub count: u32,
     pub records: [u8; 128],
 }
 
 // Of entering: the record is in the open set, or a refusal.
-#[derive(Drop)]
+#[derive(Clone, Copy)]
 pub enum Entered {
     Added,
     Refused(Refusal),

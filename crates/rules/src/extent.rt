@@ -1,6 +1,6 @@
 // How long the form is that some bytes start, if they start one.
 
-#[derive(Drop)]
+#[derive(Clone, Copy)]
 pub enum Extent {
     Of(usize),
     NoForm,

@@ -1,6 +1,7 @@
 // The vocabulary of the documents: marks, rows, records, reads and the desk's open set as values, and the answers of the operations.
 // The rules themselves are the definitions in specs/.
 #![tactic(auto)]
+
 mod answer;
 mod desk;
 mod extent;

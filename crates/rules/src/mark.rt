@@ -2,7 +2,7 @@
 ghost use Rattle.std.specs.Prelude.{◌≡◌};
 ghost use Rattle.rules.specs.Numbers.{mark_of, precedes, earlier};
 
-#[derive(Drop)]
+#[derive(Clone, Copy)]
 pub struct Mark {
     pub cen: u32,
     pub sen: u32,

@@ -5,7 +5,7 @@ ghost use Rattle.rules.specs.Numbers.{untouched};
 use crate::mark::Mark;
 
 // A pay station's row in a register.
-#[derive(Drop)]
+#[derive(Clone, Copy)]
 pub struct Row {
     pub key: u32,
     pub value: u64,
@@ -26,7 +26,7 @@ impl Row {
 }
 
 // What a set does at one key.
-#[derive(Drop)]
+#[derive(Clone, Copy)]
 pub struct Record {
     pub kind: u8,
     pub key: u32,
@@ -43,7 +43,7 @@ impl Record {
 
 // A key that a depot read, and the csn seen with it.
 #[repr(C)]
-#[derive(Drop)]
+#[derive(Clone, Copy)]
 pub struct Read {
     pub key: u32,
     pub csn: u64,
