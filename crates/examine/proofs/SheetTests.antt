@@ -16,7 +16,7 @@ use Rattle.words.specs.Words.{Bytes, word, part}
 use Rattle.rules.specs.Lists.{◌and◌, all, keep, count}
 use Rattle.rules.specs.Numbers.{master_of}
 use Rattle.rules.specs.Sheet.{no_notice, max_sets, max_records, masters, in_roster, sound_notice, is_sheet}
-use Rattle.laws.specs.Says.{Says, is_lt, is_le, is_eq, itself, retold, ◌also◌, ◌or-else◌, ◌so◌}
+use Rattle.laws.specs.Says.{Says, is_lt, is_le, is_eq, itself, retold, ◌also◌, ◌or_else◌, ◌so◌}
 use Rattle.examine.specs.SheetForm.{count_at, entry_ok, body_ok, above, set_ok, sets_ok, csns_in, sets_by, Counted, set_count, none_noticed, state_ok, head_ok, notice_ok, sheet_ok}
 use Rattle.laws.specs.Loops.{stops, goes}
 use Rattle.laws.specs.BytesHere.{octets}

@@ -1,6 +1,7 @@
 // Whether bytes are a sheet, whether they are the records of a set that can be offered, and whether a kind may have a value: every rule of
 // document 01's form, tested.
 #![tactic(auto)]
+
 mod contents;
 mod head;
 mod records;

@@ -51,9 +51,9 @@ pub ◌also◌ : {a b : Bool} {P Q : Type 0} → Says a P → Says b Q → Says 
   test = λ h. both (p.test h.0) (q.test h.1);
 }
 
-infixr 30 ◌or-else◌
-pub ◌or-else◌ : {a b : Bool} {P Q : Type 0} → Says a P → Says b Q → Says (a or b) (P ⊎ Q)
-◌or-else◌ {a} {b} p q = record {
+infixr 30 ◌or_else◌
+pub ◌or_else◌ : {a b : Bool} {P Q : Type 0} → Says a P → Says b Q → Says (a or b) (P ⊎ Q)
+◌or_else◌ {a} {b} p q = record {
   told = λ e. ⊎_elim (λ x. inl (p.told x)) (λ y. inr (q.told y)) (or→ a b e);
   test = λ h. ⊎_elim (λ x. or_left a b (p.test x)) (λ y. or_right a b (q.test y)) h;
 }

@@ -1,5 +1,6 @@
 // The desk's open set as a form: examined, searched, with a record more, and empty. The only place that knows how it is laid out.
 #![tactic(auto)]
+
 mod examining;
 mod reading;
 mod writing;

@@ -1,5 +1,6 @@
 // The register's form: examined, read and written here, and nowhere else is a row's place known.
 #![tactic(auto)]
+
 mod register;
 mod writing;
 

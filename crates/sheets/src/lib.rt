@@ -1,5 +1,6 @@
 // An examined sheet, read and written, and how long one is in a stream.
 #![tactic(auto)]
+
 mod reading;
 mod stream;
 mod writing;

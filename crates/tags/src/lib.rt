@@ -1,5 +1,6 @@
 // Station tags: read, and written. What they are is said in `rules` specs/Tag.antt.
 #![tactic(auto)]
+
 mod reading;
 mod table;
 mod writing;

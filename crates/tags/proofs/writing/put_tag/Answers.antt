@@ -1,0 +1,20 @@
+-- It writes the tag: what is written and what is still to come are always that tag.
+use Rattle.std.proofs.Common.{arith}
+use Rattle.tags.proofs.WritingLaws.{write-start, write-more, write-last}
+use Rattle.tags.proofs.writing.put_tag.Goals as goal
+
+pub loop-i-init : goal.loop-i-init
+loop-i-init c = write-start c.args.key c.args.out.now
+
+pub next_digit-interim-requires : goal.next_digit-interim-requires
+next_digit-interim-requires c = (c.loop-i.invariant.1, omega arith)
+
+pub loop-i-preserved : goal.loop-i-preserved
+loop-i-preserved c = let a = c.args in
+    let l = c.loop-i in
+    rw c.«next-digit».ensures (write-more a.key a.out.now l.out l.weight l.interim l.i l.invariant c.loop-i-test.true)
+
+pub returns : goal.returns
+returns c = let a = c.args in
+    let l = c.loop-i in
+    write-last a.key a.out.now l.out l.weight l.interim l.i l.invariant c.loop-i-test.false
