@@ -1,5 +1,6 @@
 // The forms of document 01 under one name: registers and sheets are handed on, and the verdicts of a closing stand here.
 #![tactic(auto)]
+
 mod verdict;
 
 pub use examine::{are_records, count_set, is_sheet, offered_count};

@@ -1,5 +1,6 @@
 // What a closing decides: whether the sheet is complete, which sets are fit, who wins a key, and what the committed sets apply.
 #![tactic(auto)]
+
 mod applying;
 mod completeness;
 mod effect;

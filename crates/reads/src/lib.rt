@@ -1,5 +1,6 @@
 // A depot's own read check: whether what it read still stands in its register.
 #![tactic(auto)]
+
 mod answer;
 mod entry;
 mod find;

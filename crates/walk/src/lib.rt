@@ -1,5 +1,6 @@
 // Two sheets walked together in csn order: which set is next, how many distinct ones there are, and what spoils the sheet that they are joined to.
 #![tactic(auto)]
+
 mod clash;
 mod next;
 mod notices;

@@ -6,7 +6,7 @@ ghost use Rattle.walk.specs.Walk.{behind, passed, At};
 use forms::{Next, set_count};
 
 // How many sets of each sheet are passed.
-#[derive(Drop)]
+#[derive(Clone, Copy)]
 pub struct Place {
     pub i: usize,
     pub j: usize,

@@ -1,5 +1,5 @@
 -- Each test that fails says that it is none, and all that pass that it is one.
-use Rattle.std.proofs.Common.{sym, arith, rules}
+use Rattle.std.proofs.Common.{◌≡◌, sym, arith, length, rules}
 use Rattle.laws.specs.Says.{said-no, said-yes}
 use Rattle.laws.specs.OpenSets.{none-opened, some-opened}
 use Rattle.open_sets.proofs.OpenLaws.{too_many_lem, bytes-behind, no-records, front_length}
@@ -12,16 +12,16 @@ pub returns-then-not-zero_from : goal.returns-then-not-zero_from
 returns-then-not-zero_from c = bytes-behind _ (said-no c.zero_from.ensures c.if-not-zero_from.true-raw)
 
 pub returns-then-count-eq0 : goal.returns-then-count-eq0
-returns-then-count-eq0 c = sym (none-opened _ (search rules) c.if-count-eq0.true (said-yes c.zero_from.ensures c.if-not-zero_from.false-raw))
+returns-then-count-eq0 c = sym (none-opened _ (let long : length c.args.set.records ≡ 128 = search rules in long) c.if-count-eq0.true (said-yes c.zero_from.ensures c.if-not-zero_from.false-raw))
 
 pub slice_bounds-records-end : goal.slice_bounds-records-end
-slice_bounds-records-end c = omega (arith, (search rules), c.if-count-gt-MAX_RECORDS.false)
+slice_bounds-records-end c = omega (arith, (let long : length c.args.set.records ≡ 128 = search rules in long), c.if-count-gt-MAX_RECORDS.false)
 
 pub slice_bounds-are_records-end : goal.slice_bounds-are_records-end
-slice_bounds-are_records-end c = front_length _ (search rules) c.if-count-gt-MAX_RECORDS.false
+slice_bounds-are_records-end c = front_length _ (let long : length c.args.set.records ≡ 128 = search rules in long) c.if-count-gt-MAX_RECORDS.false
 
 pub returns-then-not-are_records : goal.returns-then-not-are_records
 returns-then-not-are_records c = no-records _ c.if-count-eq0.false (said-no c.are_records.ensures c.if-not-are_records.true-raw)
 
 pub returns : goal.returns
-returns c = sym (some-opened _ (search rules) c.if-count-gt-MAX_RECORDS.false (said-yes c.are_records.ensures c.if-not-are_records.false-raw) (said-yes c.zero_from.ensures c.if-not-zero_from.false-raw))
+returns c = sym (some-opened _ (let long : length c.args.set.records ≡ 128 = search rules in long) c.if-count-gt-MAX_RECORDS.false (said-yes c.are_records.ensures c.if-not-are_records.false-raw) (said-yes c.zero_from.ensures c.if-not-zero_from.false-raw))

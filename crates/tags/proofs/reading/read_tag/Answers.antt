@@ -42,7 +42,7 @@ pub loop-i-preserved : goal.loop-i-preserved
 loop-i-preserved c = let l = c.loop-i in
     let d = ((digit-is _).told (said-yes c.is_digit.ensures c.if-not-is_digit.false-raw)) in
     let n = c.if-tag-ne-TAG_ROOM.false in
-    rw c.next_digit-interim.ensures (more c.args.tag.now l.interim l.key l.i l.invariant (omega (arith, n, c.loop-i-test.taken)) c.loop-i-test.taken d.0 d.1)
+    rw c.next_digit-interim.ensures (more c.args.tag.now l.interim l.key l.i l.invariant (omega (arith, n, c.loop-i-test.true)) c.loop-i-test.true d.0 d.1)
 
 pub returns-then-not-is_digit-2 : goal.returns-then-not-is_digit-2
 returns-then-not-is_digit-2 c = let n = c.if-tag-ne-TAG_ROOM.false in
@@ -56,14 +56,14 @@ next_digit-requires c = let d = ((digit-is _).told (said-yes c.is_digit-2.ensure
 
 pub returns-then-next_digit-ne0 : goal.returns-then-next_digit-ne0
 returns-then-next_digit-ne0 c = let l = c.loop-i in
-    refused c.args.tag.now (λ r. c.if-next_digit-ne0.true (c.next_digit.ensures ∙ check-is c.args.tag.now l.interim l.key l.i l.invariant c.loop-i-test.left c.if-tag-ne-TAG_ROOM.false ∙ r.check))
+    refused c.args.tag.now (λ r. c.if-next_digit-ne0.true (c.next_digit.ensures ∙ check-is c.args.tag.now l.interim l.key l.i l.invariant c.loop-i-test.false c.if-tag-ne-TAG_ROOM.false ∙ r.check))
 
 pub returns-then-key-eq0 : goal.returns-then-key-eq0
 returns-then-key-eq0 c = refused c.args.tag.now (λ r. absurd (omega (
   arith,
   r.low,
   (let l = c.loop-i in
-      key-is c.args.tag.now l.interim l.key l.i l.invariant c.loop-i-test.left c.if-tag-ne-TAG_ROOM.false),
+      key-is c.args.tag.now l.interim l.key l.i l.invariant c.loop-i-test.false c.if-tag-ne-TAG_ROOM.false),
   c.if-key-eq0.true,
 )))
 
@@ -72,7 +72,7 @@ returns-then-key-gt4294967295 c = refused c.args.tag.now (λ r. absurd (omega (
   arith,
   r.high,
   (let l = c.loop-i in
-      key-is c.args.tag.now l.interim l.key l.i l.invariant c.loop-i-test.left c.if-tag-ne-TAG_ROOM.false),
+      key-is c.args.tag.now l.interim l.key l.i l.invariant c.loop-i-test.false c.if-tag-ne-TAG_ROOM.false),
   c.if-key-gt4294967295.true,
 )))
 
@@ -80,7 +80,7 @@ pub returns : goal.returns
 returns c = let l = c.loop-i in
     let d = ((digit-is _).told (said-yes c.is_digit-2.ensures c.if-not-is_digit-2.false-raw)) in
     ap Key (let l = c.loop-i in
-    key-is c.args.tag.now l.interim l.key l.i l.invariant c.loop-i-test.left c.if-tag-ne-TAG_ROOM.false)
+    key-is c.args.tag.now l.interim l.key l.i l.invariant c.loop-i-test.false c.if-tag-ne-TAG_ROOM.false)
     ∙ accepted c.args.tag.now
-    (finished c.args.tag.now l.interim l.key l.i l.invariant c.loop-i-test.left c.if-tag-ne-TAG_ROOM.false d.0 d.1
+    (finished c.args.tag.now l.interim l.key l.i l.invariant c.loop-i-test.false c.if-tag-ne-TAG_ROOM.false d.0 d.1
     (sym c.next_digit.ensures ∙ c.if-next_digit-ne0.false) c.if-key-eq0.false (below c.if-key-gt4294967295.false))

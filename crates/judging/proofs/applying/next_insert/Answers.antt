@@ -1,0 +1,29 @@
+-- The least of the keys that the committed sets before set i insert.
+use Rattle.std.proofs.Common.{◌≡◌, sym, ◌∙◌, ⊎_elim, arith, length, rules}
+use Rattle.rules.specs.Sheet.{sheet_in}
+use Rattle.sheets.specs.SheetSizes.{few-sets}
+use Rattle.judging.proofs.InsertLaws.{inserts-none, inserts-more, inserts-same}
+use Rattle.judging.proofs.applying.next_insert.Goals as goal
+
+pub loop-i-init : goal.loop-i-init
+loop-i-init c = (omega arith, omega (arith, few-sets _ c.requires.0), inserts-none _ _ _)
+
+pub insert_in-requires : goal.insert_in-requires
+insert_in-requires c = (search rules, omega arith)
+
+pub loop-i-preserved : goal.loop-i-preserved
+loop-i-preserved c = let a = c.args in
+    let s = sheet_in a.sheet.now in
+    let l = c.loop-i in (
+      omega arith,
+      l.invariant.1,
+      ⊎_elim
+          (λ w. rw (w.3 ∙ w.2.ensures) (inserts-more s a.lost.now l.i a.after l.least w.1.result (sym c.none_at.ensures ∙ w.0.taken) l.invariant.2 w.1.ensures))
+          (λ w. rw w.1 (inserts-same s a.lost.now l.i a.after l.least (sym c.none_at.ensures ∙ w.0.left) l.invariant.2))
+          c.if-none_at.branch,
+    )
+
+pub returns : goal.returns
+returns c = let l = c.loop-i in
+    let e : l.i ≡ length (sheet_in c.args.sheet.now).sets = omega arith in
+    rw e at l.invariant.2

@@ -1,0 +1,33 @@
+-- No committed set before set i has a record for the key, so it is looked for from set i on.
+use Rattle.std.proofs.Common.{sym, ◌∙◌, ⊎_elim, arith, rules}
+use Rattle.sheets.specs.SheetSizes.{few-sets}
+use Rattle.judging.proofs.AppliedLaws.{as-record, no_record_lem, sought-start, sought-found, sought-later, sought-other, sought-end}
+use Rattle.judging.proofs.effect.applied.Goals as goal
+
+pub loop-i-init : goal.loop-i-init
+loop-i-init c = (omega arith, omega (arith, few-sets _ c.requires.0), sought-start _ _ _)
+
+pub record_of-requires : goal.record_of-requires
+record_of-requires c = (search rules, omega arith)
+
+pub mark_of-mark-requires : goal.mark_of-mark-requires
+mark_of-mark-requires c = (search rules, omega arith)
+
+pub returns-in-As : goal.returns-in-As
+returns-in-As c = let l = c.loop-i in
+    sought-found _ _ _ l.i (omega arith) l.invariant.2 (sym c.none_at.ensures ∙ c.if-none_at.true)
+    (as-record c.record_of.ensures c.in-As.is) c.mark_of-mark.ensures
+
+pub loop-i-preserved : goal.loop-i-preserved
+loop-i-preserved c = let l = c.loop-i in
+    let told = sym c.none_at.ensures in (
+      omega arith,
+      l.invariant.1,
+      ⊎_elim
+          (λ w. sought-later _ _ _ l.i (omega arith) l.invariant.2 (told ∙ w.0.taken) (no_record_lem w.1.ensures w.3.given.1))
+          (λ w. sought-other _ _ _ l.i (omega arith) l.invariant.2 (told ∙ w.left))
+          c.if-none_at.branch,
+    )
+
+pub returns : goal.returns
+returns c = let l = c.loop-i in sought-end _ _ _ l.i (omega arith) l.invariant.2

@@ -1,0 +1,33 @@
+-- The set that leads among those before set i.
+use Rattle.std.proofs.Common.{sym, ◌∙◌, ap, ⊎_elim, arith, rules}
+use Rattle.laws.specs.SheetLaws.{sheet-sound}
+use Rattle.laws.specs.Says.{clash}
+use Rattle.judging.specs.Answers.{earlier_of}
+use Rattle.judging.proofs.WinnerLaws.{lead-start, lead-more, lead-same, lead-wins}
+use Rattle.judging.proofs.judge.winner.Goals as goal
+
+pub loop-i-init : goal.loop-i-init
+loop-i-init c = (omega arith, lead-start _ _ _)
+
+pub claims-requires : goal.claims-requires
+claims-requires c = (search rules, search rules, omega arith)
+
+pub mark_of-requires : goal.mark_of-requires
+mark_of-requires c = (search rules, omega arith)
+
+pub loop-i-preserved : goal.loop-i-preserved
+loop-i-preserved c = let l = c.loop-i in
+    let a = c.args in
+    let sound = sheet-sound _ c.requires.0 in
+    let told = c.claims.ensures in (
+      omega arith,
+      ⊎_elim
+          (λ w. rw (w.3 ∙ w.2.ensures ∙ ap (earlier_of l.lead) w.1.ensures)
+          (lead-more _ a.wrong.now a.key l.i l.lead sound (omega arith) l.invariant.1 (sym told ∙ w.0.taken)))
+          (λ w. rw w.1 (lead-same _ a.wrong.now a.key l.i l.lead l.invariant.1 (λ d. clash (told ∙ d) w.0.left)))
+          c.if-claims.branch,
+    )
+
+pub returns : goal.returns
+returns c = let l = c.loop-i in
+    λ g t. lead-wins _ _ _ (sheet-sound _ c.requires.0) g t l.i l.lead (omega arith) l.invariant.1
