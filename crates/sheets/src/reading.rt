@@ -123,7 +123,7 @@ fn body(b: &[u8], i: usize) -> &[u8]
 }
 
 // From which of two sheets the next set is taken. A set of both is passed in both.
-#[derive(Drop)]
+#[derive(Clone, Copy)]
 pub enum Next {
     First,
     Second,
