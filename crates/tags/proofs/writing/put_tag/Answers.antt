@@ -7,9 +7,9 @@ pub loop-i-init : goal.loop-i-init
 loop-i-init c = write-start c.args.key c.args.out.now
 
 pub nonzero_div-d : goal.nonzero_div-d
-nonzero_div-d c = let a = c.BEFORE.before.args {-?-} in
-    let l = c.loop-i {-?-} in
-    omega (arith, some-weight a.key a.out.now l.out l.weight l.interim l.i l.invariant c.loop-i-test.true {-?-})
+nonzero_div-d c = let a = c.args in
+    let l = c.loop-i in
+    omega (arith, some-weight a.key a.out.now l.out l.weight l.interim l.i l.invariant c.loop-i-test.true)
 
 pub next_digit-interim-requires : goal.next_digit-interim-requires
 next_digit-interim-requires c = (c.loop-i.invariant.1, omega arith)
