@@ -1,5 +1,6 @@
 // Gathering: open, put and notice, over the forms' promises alone.
 #![tactic(auto)]
+
 mod offer;
 mod one;
 mod opening;

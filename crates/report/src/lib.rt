@@ -1,5 +1,6 @@
 // The closing program's text, written into lent bytes: document 01's report of a closed epoch, and a refusal.
 #![tactic(auto)]
+
 mod line;
 mod report;
 mod text;
