@@ -3,6 +3,9 @@
 mod case;
 
 use case::run_case;
+use std::env;
+use std::os::fd::AsRawFd;
+use std::fs::File;
 
 // Every case of an open file. At most 4,294,967,295 are run, so that no file keeps the program for ever.
 fn run_cases(file: i32) {
@@ -12,25 +15,18 @@ fn run_cases(file: i32) {
     }
 }
 
-fn run_file(name: &[u8]) {
-    let file = os::open_read(name);
-    if file < 0 {
-        os::fail(name);
-        return;
+fn run_file(rt: &HostRuntime, name: &str) {
+    match File::open(rt, name) {
+        Ok(file) => run_cases(file.as_raw_fd()),
+        Err(e) => {
+            let _ = eprintln!(rt; "{name}: {e}");
+        }
     }
-    run_cases(file);
-    libc::close(file);
 }
 
-// The file that argument i names.
-fn run_argument(i: usize) {
-    let mut name = io::buffer();
-    let n = os::arg(i, &mut name);
-    run_file(&name[..n]);
-}
-
-fn main() {
-    for i in 1..os::arg_count() {
-        run_argument(i);
+fn main(rt: HostRuntime) -> std::io::Result<()> {
+    for name in env::args(&rt)?.skip(1) {
+        run_file(&rt, name.as_str());
     }
+    Ok(())
 }
