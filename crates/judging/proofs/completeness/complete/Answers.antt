@@ -12,11 +12,11 @@ loop-m-init c = (omega arith, λ k h. absurd (omega arith))
 
 pub returns-then-not-owes_nothing : goal.returns-then-not-owes_nothing
 unfolding complete nothing_owed
-returns-then-not-owes_nothing c = fails (nothing_owed (sheet_in c.args.sheet.now)) master_count _ (omega arith) (said-no c.Owes-nothing.ensures {-?-} c.if-not-owes_nothing.true-raw)
+returns-then-not-owes_nothing c = fails (nothing_owed (sheet_in c.args.sheet.now)) master_count _ (omega arith) (said-no c.owes_nothing.ensures c.if-not-owes_nothing.true-raw)
 
 pub loop-m-preserved : goal.loop-m-preserved
 loop-m-preserved c = let l = c.loop-m in
-    (omega arith, below_more _ l.m l.invariant.1 (said-yes c.Owes-nothing.ensures {-?-} c.if-not-owes_nothing.false-raw))
+    (omega arith, below_more _ l.m l.invariant.1 (said-yes c.owes_nothing.ensures c.if-not-owes_nothing.false-raw))
 
 pub returns : goal.returns
 unfolding complete nothing_owed
