@@ -21,7 +21,7 @@ loop-i-preserved c = let a = c.args in
       l.invariant.1,
       elim c.if-none_at.branch [ then-none_at w ↦ omega (arith, w.count_in-count.ensures.0) | else-none_at w ↦ omega arith ],
       elim c.if-none_at.branch [
-          then-none_at w ↦ rw (w.count-is ∙ ap (λ (n : ℕ). l.count + n) w.count_in-count.ensures.1) (counted-more s a.lost.now _ l.i l.count (omega arith) l.invariant.3 (told ∙ w.if-none_at.true))
+        | then-none_at w ↦ rw (w.count-is ∙ ap (λ (n : ℕ). l.count + n) w.count_in-count.ensures.1) (counted-more s a.lost.now _ l.i l.count (omega arith) l.invariant.3 (told ∙ w.if-none_at.true))
         | else-none_at w ↦ rw w.count-is (counted_same s a.lost.now _ l.i l.count (omega arith) l.invariant.3 (told ∙ w.if-none_at.false))
       ],
     )

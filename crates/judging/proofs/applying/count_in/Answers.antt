@@ -21,7 +21,7 @@ loop-j-preserved c = let l = c.loop-j in
       l.invariant.1,
       elim c.if-r-kind.branch [ then-r-kind w ↦ omega arith | else-r-kind w ↦ omega arith ],
       elim c.if-r-kind.branch [
-          then-r-kind w ↦ w.count-is ∙ ap (λ (k : ℕ). k + 1) l.invariant.3 ∙ sym (kind-yes _ _ l.j (omega arith) (sym e ∙ w.if-r-kind.true))
+        | then-r-kind w ↦ w.count-is ∙ ap (λ (k : ℕ). k + 1) l.invariant.3 ∙ sym (kind-yes _ _ l.j (omega arith) (sym e ∙ w.if-r-kind.true))
         | else-r-kind w ↦ w.count-is ∙ l.invariant.3 ∙ sym (kind-no _ _ l.j (omega arith) (λ p. w.if-r-kind.false (e ∙ p)))
       ],
     )

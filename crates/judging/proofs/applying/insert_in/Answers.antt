@@ -28,8 +28,8 @@ loop-j-preserved c = let l = c.loop-j in
       omega arith,
       below_more _ l.j l.invariant.1
           (λ q. elim c.if-r-eq-INSERT.branch [
-            then-r-eq-INSERT+else-after-r w ↦ omega (arith, ap record_key e)
-          | else-r-eq-INSERT w ↦ absurd (w.if-r-eq-INSERT.false (ap (λ (r : Record). r.kind) e ∙ q))
+            | then-r-eq-INSERT+else-after-r w ↦ omega (arith, ap record_key e)
+            | else-r-eq-INSERT w ↦ absurd (w.if-r-eq-INSERT.false (ap (λ (r : Record). r.kind) e ∙ q))
           ]),
     )
 

@@ -19,7 +19,7 @@ loop-i-preserved c = let a = c.args in
       omega arith,
       l.invariant.1,
       elim c.if-none_at.branch [
-          then-none_at w ↦ rw (w.least-is ∙ w.smaller-least.ensures) (inserts-more s a.lost.now l.i a.after l.least w.insert_in.result (sym c.none_at.ensures ∙ w.if-none_at.true) l.invariant.2 w.insert_in.ensures)
+        | then-none_at w ↦ rw (w.least-is ∙ w.smaller-least.ensures) (inserts-more s a.lost.now l.i a.after l.least w.insert_in.result (sym c.none_at.ensures ∙ w.if-none_at.true) l.invariant.2 w.insert_in.ensures)
         | else-none_at w ↦ rw w.least-is (inserts-same s a.lost.now l.i a.after l.least (sym c.none_at.ensures ∙ w.if-none_at.false) l.invariant.2)
       ],
     )

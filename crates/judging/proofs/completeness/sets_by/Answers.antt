@@ -17,7 +17,7 @@ loop-i-preserved c = let l = c.loop-i in
       omega arith,
       elim c.if-set_csn-m.branch [ then-set_csn-m w ↦ omega arith | else-set_csn-m w ↦ omega arith ],
       elim c.if-set_csn-m.branch [
-          then-set_csn-m w ↦ w.count-is ∙ ap (λ (k : ℕ). k + 1) l.invariant.2 ∙ sym (sets-yes _ _ l.i (omega arith) (ap (λ (x : ℕ). x % 16) (sym e) ∙ w.if-set_csn-m.true))
+        | then-set_csn-m w ↦ w.count-is ∙ ap (λ (k : ℕ). k + 1) l.invariant.2 ∙ sym (sets-yes _ _ l.i (omega arith) (ap (λ (x : ℕ). x % 16) (sym e) ∙ w.if-set_csn-m.true))
         | else-set_csn-m w ↦ w.count-is ∙ l.invariant.2 ∙ sym (sets-no _ _ l.i (omega arith) (λ p. w.if-set_csn-m.false (ap (λ (x : ℕ). x % 16) e ∙ p)))
       ],
     )

@@ -25,7 +25,7 @@ loop-i-preserved c = let l = c.loop-i in
       omega arith,
       l.invariant.1,
       elim c.if-none_at.branch [
-          then-none_at+in_default w ↦ sought-later _ _ _ l.i (omega arith) l.invariant.2 (told ∙ w.if-none_at.true) (no_record_lem w.record_of.ensures w.in_default.is)
+        | then-none_at+in_default w ↦ sought-later _ _ _ l.i (omega arith) l.invariant.2 (told ∙ w.if-none_at.true) (no_record_lem w.record_of.ensures w.in_default.is)
         | else-none_at w ↦ sought-other _ _ _ l.i (omega arith) l.invariant.2 (told ∙ w.if-none_at.false)
       ],
     )

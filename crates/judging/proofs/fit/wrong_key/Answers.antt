@@ -43,14 +43,14 @@ records-preserved c =
     let o = c.records in
     let l = c.rows in
     let k : Walked g r l.at c.rows-test.present = elim c.rows-test.branch [
-          else-rows-test w ↦ walked-nowhere g r l.at (w.present-is ∙ l.invariant.1) (record { before = l.invariant.2; there = λ h. absurd (omega arith) })
-        | then-rows-test+then-key-row w ↦ walked-nowhere g r l.at (w.present-is ∙ l.invariant.1) (record { before = l.invariant.2; there = λ h. omega arith })
-        | then-rows-test+else-key-row+then-key-row-2+else-kind-eq-INSERT w ↦ walked-there g r l.at w.present-is (omega arith) (sym w.row_key-row.ensures ∙ sym w.if-key-row-2.true) w.if-kind-eq-INSERT.false
-      ] in
+      | else-rows-test w ↦ walked-nowhere g r l.at (w.present-is ∙ l.invariant.1) (record { before = l.invariant.2; there = λ h. absurd (omega arith) })
+      | then-rows-test+then-key-row w ↦ walked-nowhere g r l.at (w.present-is ∙ l.invariant.1) (record { before = l.invariant.2; there = λ h. omega arith })
+      | then-rows-test+else-key-row+then-key-row-2+else-kind-eq-INSERT w ↦ walked-there g r l.at w.present-is (omega arith) (sym w.row_key-row.ensures ∙ sym w.if-key-row-2.true) w.if-kind-eq-INSERT.false
+    ] in
     let fits : fit_record g r ≡ true = elim c.if-not-present.branch [
-          then-not-present+else-kind-ne-INSERT w ↦ fits-nowhere _ _ l.at (register-sound _ c.requires.0) (k.nowhere w.if-not-present.true) w.if-kind-ne-INSERT.false
-        | else-not-present w ↦ let t = k.there w.if-not-present.false in fits-there _ _ l.at t.0 t.1 t.2
-      ] in
+      | then-not-present+else-kind-ne-INSERT w ↦ fits-nowhere _ _ l.at (register-sound _ c.requires.0) (k.nowhere w.if-not-present.true) w.if-kind-ne-INSERT.false
+      | else-not-present w ↦ let t = k.there w.if-not-present.false in fits-there _ _ l.at t.0 t.1 t.2
+    ] in
     let sound = records-sound _ c.args.i c.requires.1 c.requires.2 in (
       l.invariant.0 ∙ o.invariant.0,
       skips o.invariant.1 (omega arith) (ap not (ap (fit_record g) (sym e) ∙ fits)),
@@ -85,9 +85,9 @@ returns-then-kind-ne-INSERT c =
     let o = c.records in
     let l = c.rows in
     let k : Walked g r l.at c.rows-test.present = elim c.rows-test.branch [
-          else-rows-test w ↦ walked-nowhere g r l.at (w.present-is ∙ l.invariant.1) (record { before = l.invariant.2; there = λ h. absurd (omega arith) })
-        | then-rows-test+then-key-row w ↦ walked-nowhere g r l.at (w.present-is ∙ l.invariant.1) (record { before = l.invariant.2; there = λ h. omega arith })
-        | then-rows-test+else-key-row+then-key-row-2+else-kind-eq-INSERT w ↦ walked-there g r l.at w.present-is (omega arith) (sym w.row_key-row.ensures ∙ sym w.if-key-row-2.true) w.if-kind-eq-INSERT.false
-      ] in
+      | else-rows-test w ↦ walked-nowhere g r l.at (w.present-is ∙ l.invariant.1) (record { before = l.invariant.2; there = λ h. absurd (omega arith) })
+      | then-rows-test+then-key-row w ↦ walked-nowhere g r l.at (w.present-is ∙ l.invariant.1) (record { before = l.invariant.2; there = λ h. omega arith })
+      | then-rows-test+else-key-row+then-key-row-2+else-kind-eq-INSERT w ↦ walked-there g r l.at w.present-is (omega arith) (sym w.row_key-row.ensures ∙ sym w.if-key-row-2.true) w.if-kind-eq-INSERT.false
+    ] in
     let wrong : fit_record g r ≡ false = wrong-nowhere _ _ l.at (register-sound _ c.requires.0) (k.nowhere c.if-not-present.true) c.if-kind-ne-INSERT.true in
     ap (λ (q : Record). Key q.key) e ∙ sym (ap first_key (stops o.invariant.1 (omega arith) (ap not (ap (fit_record g) (sym e) ∙ wrong))))

@@ -1,6 +1,5 @@
 -- The set wins the keys of all records before record j.
-use Rattle.std.proofs.Common.{◌≡◌, refl, sym, ◌∙◌, ap, arith, rules, not}
-use borrow.Author.Tests.{not-true, not-false}
+use Rattle.std.proofs.Common.{refl, sym, ◌∙◌, ap, arith, rules, not}
 use Rattle.rules.specs.Sheet.{sheet_in}
 use Rattle.rules.specs.Closing.{first_lost}
 use Rattle.sheets.specs.SheetReadings.{set_at, record_at}
@@ -24,13 +23,13 @@ returns-then-not-won_by c = let l = c.loop-j in
     let s = sheet_in c.args.sheet.now in
     let w = set_at s c.args.i in
     λ g t. ap Key c.record_key-key.ensures
-    ∙ sym (ap first_key (stops (l.invariant.1 g t) (omega arith) (ap not (sym (c.won_by.ensures ∙ won g s w (record_at w l.j) c.record_key-key.ensures c.set_csn-csn.ensures (c.winner.ensures g t)) ∙ not-true _ c.if-not-won_by.true-raw))))
+    ∙ sym (ap first_key (stops (l.invariant.1 g t) (omega arith) (ap not (sym (c.won_by.ensures ∙ won g s w (record_at w l.j) c.record_key-key.ensures c.set_csn-csn.ensures (c.winner.ensures g t)) ∙ c.if-not-won_by.true))))
 
 pub loop-j-preserved : goal.loop-j-preserved
 loop-j-preserved c = let l = c.loop-j in
     let s = sheet_in c.args.sheet.now in
     let w = set_at s c.args.i in
-    (omega arith, λ g t. skips (l.invariant.1 g t) (omega arith) (ap not (sym (c.won_by.ensures ∙ won g s w (record_at w l.j) c.record_key-key.ensures c.set_csn-csn.ensures (c.winner.ensures g t)) ∙ not-false _ c.if-not-won_by.false-raw)))
+    (omega arith, λ g t. skips (l.invariant.1 g t) (omega arith) (ap not (sym (c.won_by.ensures ∙ won g s w (record_at w l.j) c.record_key-key.ensures c.set_csn-csn.ensures (c.winner.ensures g t)) ∙ c.if-not-won_by.false)))
 
 pub returns : goal.returns
 unfolding lost_key first_key

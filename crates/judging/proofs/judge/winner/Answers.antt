@@ -23,8 +23,8 @@ loop-i-preserved c = let l = c.loop-i in
     let told = c.claims.ensures in (
       omega arith,
       elim c.if-claims.branch [
-          then-claims w ↦ rw (w.lead-is ∙ w.earlier_of-lead.ensures ∙ ap (earlier_of l.lead) w.mark_of.ensures)
-          (lead-more _ a.wrong.now a.key l.i l.lead sound (omega arith) l.invariant.1 (sym told ∙ w.if-claims.true))
+        | then-claims w ↦ rw (w.lead-is ∙ w.earlier_of-lead.ensures ∙ ap (earlier_of l.lead) w.mark_of.ensures)
+            (lead-more _ a.wrong.now a.key l.i l.lead sound (omega arith) l.invariant.1 (sym told ∙ w.if-claims.true))
         | else-claims w ↦ rw w.lead-is (lead-same _ a.wrong.now a.key l.i l.lead l.invariant.1 (λ d. clash (told ∙ d) w.if-claims.false))
       ],
     )
