@@ -6,7 +6,6 @@ use Rattle.sheets.specs.SheetReadings.{set_at}
 use Rattle.sheets.specs.SheetMembers.{records-sound}
 use Rattle.judging.proofs.InsertLaws.{insert-here, insert-none}
 use Rattle.judging.proofs.applying.insert_in.Goals as goal
-use Rattle.judging.proofs.applying.insert_in.Goals.{then-r-eq-INSERT+else-after-r, else-r-eq-INSERT}
 
 pub loop-j-init : goal.loop-j-init
 loop-j-init c = (omega arith, λ k h. absurd (omega arith))
@@ -20,18 +19,14 @@ returns-then-after-r c = let l = c.loop-j in
     let w = set_at (sheet_in c.args.sheet.now) c.args.i in
     rw (ap record_key e)
     (insert-here w c.args.after l.j l.invariant.1 (records-sound _ _ c.requires.0 c.requires.1) (omega arith)
-    (ap (λ (r : Record). r.kind) (sym e) ∙ c.if-r-eq-INSERT.true) (omega (arith, ap record_key e)))
+    (ap (λ (r : Record). r.kind) (sym e) ∙ (search rules)) (omega (arith, ap record_key e)))
 
 pub loop-j-preserved : goal.loop-j-preserved
 loop-j-preserved c = let l = c.loop-j in
-    let e = c.record-r.ensures in (
-      omega arith,
-      below_more _ l.j l.invariant.1
-          (λ q. elim c.if-r-eq-INSERT.branch [
-            | then-r-eq-INSERT+else-after-r w ↦ omega (arith, ap record_key e)
-            | else-r-eq-INSERT w ↦ absurd (w.if-r-eq-INSERT.false (ap (λ (r : Record). r.kind) e ∙ q))
-          ]),
-    )
+    let e = c.record-r.ensures in
+    let kind = ap (λ (r : Record). r.kind) e in
+    let key = ap record_key e in
+    (omega arith, below_more _ l.j l.invariant.1 (λ q. grind (arith, kind, key, q)))
 
 pub returns : goal.returns
 returns c = let a = c.args in
