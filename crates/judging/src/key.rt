@@ -2,7 +2,7 @@
 ghost use Rattle.std.specs.Prelude.{◌≡◌};
 ghost use Rattle.judging.specs.Answers.{smaller};
 
-#[derive(Drop)]
+#[derive(Clone, Copy)]
 pub enum FirstKey {
     Key(u32),
     None,

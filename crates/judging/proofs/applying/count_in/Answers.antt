@@ -1,11 +1,12 @@
 -- The records of the kind before record j are counted.
-use Rattle.std.proofs.Common.{ℕ, ◌+◌, sym, ◌∙◌, ap, ⊎_elim, arith, rules}
+use Rattle.std.proofs.Common.{ℕ, ◌+◌, sym, ◌∙◌, ap, arith, rules}
 use Rattle.rules.specs.declared.row.Record.{Record}
 use Rattle.rules.specs.Sheet.{sheet_in}
 use Rattle.sheets.specs.SheetReadings.{set_at}
 use Rattle.sheets.specs.SheetSizes.{few-records}
 use Rattle.judging.proofs.AppliedLaws.{kind-none, kind-yes, kind-no, kind-all}
 use Rattle.judging.proofs.applying.count_in.Goals as goal
+use Rattle.judging.proofs.applying.count_in.Goals.{then-r-kind, else-r-kind}
 
 pub loop-j-init : goal.loop-j-init
 loop-j-init c = (omega arith, omega (arith, (few-records _ _ c.requires.0 c.requires.1).1), omega arith, kind-none _ (set_at (sheet_in c.args.sheet.now) c.args.i))
@@ -18,11 +19,11 @@ loop-j-preserved c = let l = c.loop-j in
     let e = ap (λ (r : Record). r.kind) c.record-r.ensures in (
       omega arith,
       l.invariant.1,
-      ⊎_elim (λ w. omega (arith, w.1)) (λ w. omega (arith, w.1)) c.if-r-kind.branch,
-      ⊎_elim
-          (λ w. w.1 ∙ ap (λ (k : ℕ). k + 1) l.invariant.3 ∙ sym (kind-yes _ _ l.j (omega arith) (sym e ∙ w.0.taken)))
-          (λ w. w.1 ∙ l.invariant.3 ∙ sym (kind-no _ _ l.j (omega arith) (λ p. w.0.left (e ∙ p))))
-          c.if-r-kind.branch,
+      elim c.if-r-kind.branch [ then-r-kind w ↦ omega arith | else-r-kind w ↦ omega arith ],
+      elim c.if-r-kind.branch [
+        | then-r-kind w ↦ w.count-is ∙ ap (λ (k : ℕ). k + 1) l.invariant.3 ∙ sym (kind-yes _ _ l.j (omega arith) (sym e ∙ w.if-r-kind.true))
+        | else-r-kind w ↦ w.count-is ∙ l.invariant.3 ∙ sym (kind-no _ _ l.j (omega arith) (λ p. w.if-r-kind.false (e ∙ p)))
+      ],
     )
 
 pub returns : goal.returns

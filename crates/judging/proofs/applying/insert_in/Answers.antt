@@ -1,5 +1,5 @@
 -- No record before record j inserts a key above `after`.
-use Rattle.std.proofs.Common.{sym, ◌∙◌, ap, ⊎_elim, arith, rules, below_more}
+use Rattle.std.proofs.Common.{sym, ◌∙◌, ap, arith, rules, below_more}
 use Rattle.rules.specs.declared.row.Record.{Record}
 use Rattle.rules.specs.Sheet.{sheet_in, record_key}
 use Rattle.sheets.specs.SheetReadings.{set_at}
@@ -19,17 +19,14 @@ returns-then-after-r c = let l = c.loop-j in
     let w = set_at (sheet_in c.args.sheet.now) c.args.i in
     rw (ap record_key e)
     (insert-here w c.args.after l.j l.invariant.1 (records-sound _ _ c.requires.0 c.requires.1) (omega arith)
-    (ap (λ (c : Record). c.kind {-?-}) (sym e) ∙ c.if-r-eq-INSERT.true) (omega (arith, ap record_key e)))
+    (ap (λ (r : Record). r.kind) (sym e) ∙ (search rules)) (omega (arith, ap record_key e)))
 
 pub loop-j-preserved : goal.loop-j-preserved
 loop-j-preserved c = let l = c.loop-j in
-    let e = c.record-r.ensures in (
-      omega arith,
-      below_more _ l.j l.invariant.1
-          (λ q. ⊎_elim
-          (λ w. omega (arith, w.1, ap record_key e))
-          (λ w. absurd (w.left (ap (λ (r : Record). r.kind) e ∙ q))) c.if-r-eq-INSERT.branch),
-    )
+    let e = c.record-r.ensures in
+    let kind = ap (λ (r : Record). r.kind) e in
+    let key = ap record_key e in
+    (omega arith, below_more _ l.j l.invariant.1 (λ q. grind (arith, kind, key, q)))
 
 pub returns : goal.returns
 returns c = let a = c.args in

@@ -1,9 +1,10 @@
 -- The least of the keys that the committed sets before set i insert.
-use Rattle.std.proofs.Common.{◌≡◌, sym, ◌∙◌, ⊎_elim, arith, length, rules}
+use Rattle.std.proofs.Common.{◌≡◌, sym, ◌∙◌, arith, length, rules}
 use Rattle.rules.specs.Sheet.{sheet_in}
 use Rattle.sheets.specs.SheetSizes.{few-sets}
 use Rattle.judging.proofs.InsertLaws.{inserts-none, inserts-more, inserts-same}
 use Rattle.judging.proofs.applying.next_insert.Goals as goal
+use Rattle.judging.proofs.applying.next_insert.Goals.{then-none_at, else-none_at}
 
 pub loop-i-init : goal.loop-i-init
 loop-i-init c = (omega arith, omega (arith, few-sets _ c.requires.0), inserts-none _ _ _)
@@ -17,10 +18,10 @@ loop-i-preserved c = let a = c.args in
     let l = c.loop-i in (
       omega arith,
       l.invariant.1,
-      ⊎_elim
-          (λ w. rw (w.3 ∙ w.2.ensures) (inserts-more s a.lost.now l.i a.after l.least w.1.result (sym c.none_at.ensures ∙ w.0.taken) l.invariant.2 w.1.ensures))
-          (λ w. rw w.1 (inserts-same s a.lost.now l.i a.after l.least (sym c.none_at.ensures ∙ w.0.left) l.invariant.2))
-          c.if-none_at.branch,
+      elim c.if-none_at.branch [
+        | then-none_at w ↦ rw (w.least-is ∙ w.smaller-least.ensures) (inserts-more s a.lost.now l.i a.after l.least w.insert_in.result (sym c.none_at.ensures ∙ w.if-none_at.true) l.invariant.2 w.insert_in.ensures)
+        | else-none_at w ↦ rw w.least-is (inserts-same s a.lost.now l.i a.after l.least (sym c.none_at.ensures ∙ w.if-none_at.false) l.invariant.2)
+      ],
     )
 
 pub returns : goal.returns

@@ -1,8 +1,9 @@
 -- The count of the master's among the sets before set i.
-use Rattle.std.proofs.Common.{ℕ, ◌+◌, ◌%◌, sym, ◌∙◌, ap, ⊎_elim, arith, rules}
+use Rattle.std.proofs.Common.{ℕ, ◌+◌, ◌%◌, sym, ◌∙◌, ap, arith, rules}
 use Rattle.rules.specs.Sheet.{sheet_in}
 use Rattle.judging.proofs.CompleteLaws.{sets-none, sets-yes, sets-no, sets-all}
 use Rattle.judging.proofs.completeness.sets_by.Goals as goal
+use Rattle.judging.proofs.completeness.sets_by.Goals.{then-set_csn-m, else-set_csn-m}
 
 pub loop-i-init : goal.loop-i-init
 loop-i-init c = (omega arith, omega arith, sets-none (sheet_in c.args.sheet.now) _)
@@ -14,11 +15,11 @@ pub loop-i-preserved : goal.loop-i-preserved
 loop-i-preserved c = let l = c.loop-i in
     let e = c.set_csn.ensures in (
       omega arith,
-      ⊎_elim (λ w. omega (arith, w.1)) (λ w. omega (arith, w.1)) c.if-set_csn-m.branch,
-      ⊎_elim
-          (λ w. w.1 ∙ ap (λ (k : ℕ). k + 1) l.invariant.2 ∙ sym (sets-yes _ _ l.i (omega arith) (ap (λ (x : ℕ). x % 16) (sym e) ∙ w.0.taken)))
-          (λ w. w.1 ∙ l.invariant.2 ∙ sym (sets-no _ _ l.i (omega arith) (λ p. w.0.left (ap (λ (x : ℕ). x % 16) e ∙ p))))
-          c.if-set_csn-m.branch,
+      elim c.if-set_csn-m.branch [ then-set_csn-m w ↦ omega arith | else-set_csn-m w ↦ omega arith ],
+      elim c.if-set_csn-m.branch [
+        | then-set_csn-m w ↦ w.count-is ∙ ap (λ (k : ℕ). k + 1) l.invariant.2 ∙ sym (sets-yes _ _ l.i (omega arith) (ap (λ (x : ℕ). x % 16) (sym e) ∙ w.if-set_csn-m.true))
+        | else-set_csn-m w ↦ w.count-is ∙ l.invariant.2 ∙ sym (sets-no _ _ l.i (omega arith) (λ p. w.if-set_csn-m.false (ap (λ (x : ℕ). x % 16) e ∙ p)))
+      ],
     )
 
 pub returns : goal.returns

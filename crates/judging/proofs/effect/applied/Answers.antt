@@ -1,8 +1,9 @@
 -- No committed set before set i has a record for the key, so it is looked for from set i on.
-use Rattle.std.proofs.Common.{sym, ◌∙◌, ⊎_elim, arith, rules}
+use Rattle.std.proofs.Common.{sym, ◌∙◌, arith, rules}
 use Rattle.sheets.specs.SheetSizes.{few-sets}
 use Rattle.judging.proofs.AppliedLaws.{as-record, no_record_lem, sought-start, sought-found, sought-later, sought-other, sought-end}
 use Rattle.judging.proofs.effect.applied.Goals as goal
+use Rattle.judging.proofs.effect.applied.Goals.{then-none_at+in_default, else-none_at}
 
 pub loop-i-init : goal.loop-i-init
 loop-i-init c = (omega arith, omega (arith, few-sets _ c.requires.0), sought-start _ _ _)
@@ -23,10 +24,10 @@ loop-i-preserved c = let l = c.loop-i in
     let told = sym c.none_at.ensures in (
       omega arith,
       l.invariant.1,
-      ⊎_elim
-          (λ w. sought-later _ _ _ l.i (omega arith) l.invariant.2 (told ∙ w.0.taken) (no_record_lem w.1.ensures w.3.given.1))
-          (λ w. sought-other _ _ _ l.i (omega arith) l.invariant.2 (told ∙ w.left))
-          c.if-none_at.branch,
+      elim c.if-none_at.branch [
+        | then-none_at+in_default w ↦ sought-later _ _ _ l.i (omega arith) l.invariant.2 (told ∙ w.if-none_at.true) (no_record_lem w.record_of.ensures w.in_default.is)
+        | else-none_at w ↦ sought-other _ _ _ l.i (omega arith) l.invariant.2 (told ∙ w.if-none_at.false)
+      ],
     )
 
 pub returns : goal.returns

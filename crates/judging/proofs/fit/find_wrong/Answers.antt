@@ -1,7 +1,7 @@
 -- The places before set i tell the first key found wrong.
 use Rattle.std.proofs.Common.{◌∙◌, ap, arith, length-set, rules}
 use Rattle.sheets.specs.SheetSizes.{few-sets}
-use Rattle.judging.specs.Tables.{in_table, wrong_key}
+use Rattle.judging.specs.Tables.{in_table}
 use Rattle.laws.specs.Places.{told_more}
 use Rattle.judging.proofs.fit.find_wrong.Goals as goal
 

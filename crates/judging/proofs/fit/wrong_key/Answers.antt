@@ -1,6 +1,5 @@
 -- Rows that were passed have smaller keys than every record to come; the first record found wrong is looked for from record j on.
-use Rattle.std.proofs.Common.{◌<◌, ◌≡◌, refl, sym, ◌∙◌, ap, true, not, ⊎_elim, arith, length, rules, below_more}
-use borrow.Author.Tests.{not-true, not-false}
+use Rattle.std.proofs.Common.{◌<◌, ◌≡◌, refl, sym, ◌∙◌, ap, true, false, not, arith, length, rules, below_more}
 use Rattle.rules.specs.declared.row.Record.{Record}
 use Rattle.rules.specs.Register.{register_in}
 use Rattle.rules.specs.Sheet.{sheet_in, record_key}
@@ -13,8 +12,10 @@ use Rattle.judging.specs.Answers.{first_key}
 use Rattle.judging.proofs.InOrder.{larger-record}
 use Rattle.judging.specs.Tables.{wrong_key}
 use Rattle.judging.proofs.Firsts.{skips, stops, ends}
-use Rattle.judging.proofs.FitLaws.{walked-nowhere, walked-there, fits-there, wrong-there, fits-nowhere, wrong-nowhere}
+use Rattle.judging.proofs.FitLaws.{Walked, walked-nowhere, walked-there, fits-there, wrong-there, fits-nowhere, wrong-nowhere}
 use Rattle.judging.proofs.fit.wrong_key.Goals as goal
+use Rattle.judging.proofs.fit.wrong_key.Goals.{else-rows-test, then-rows-test+then-key-row, then-rows-test+else-key-row+then-key-row-2+else-kind-eq-INSERT}
+use Rattle.judging.proofs.fit.wrong_key.Goals.{then-not-present+else-kind-ne-INSERT, else-not-present}
 
 pub records-init : goal.records-init
 unfolding first_wrong
@@ -34,29 +35,26 @@ rows-preserved c = let l = c.rows in
     (l.invariant.0, l.invariant.1, below_more _ l.at l.invariant.2 (omega arith))
 
 pub records-preserved : goal.records-preserved
-records-preserved c = let o = c.records in
-    let l = c.rows in
+records-preserved c =
+    let g = register_in c.args.register.now in
+    let s = set_at (sheet_in c.args.sheet.now) c.args.i in
+    let r = c.record-r.result in
     let e = c.record-r.ensures in
-    let pre = c.requires in
-    let k = (let r = c.record-r.result in
-    let g = (register_in c.args.register.now) in
+    let o = c.records in
     let l = c.rows in
-    ⊎_elim
-    (λ v. walked-nowhere g r l.at (v.1 ∙ l.invariant.1) (record { before = l.invariant.2; there = λ h. absurd (omega (arith, v.0)) }))
-    (λ v. ⊎_elim
-    (λ u. walked-nowhere g r l.at (u.3 ∙ l.invariant.1) (record { before = l.invariant.2; there = λ h. omega (arith, u.1.ensures, u.2.taken) }))
-    (λ u. walked-there g r l.at u.5 (omega (arith, u.0.taken)) (sym u.1.ensures ∙ sym u.3.taken) u.4.left) v)
-    c.rows-test.branch) in
-    let fits : fit_record (register_in c.args.register.now) c.record-r.result ≡ true =
-    ⊎_elim
-    (λ v. fits-nowhere _ _ l.at (register-sound _ pre.0) (k.nowhere (not-true _ v.0.taken)) v.1.left)
-    (λ v. let t = k.there (not-false _ v.left) in fits-there _ _ l.at t.0 t.1 t.2)
-    c.if-not-present.branch
-    in
-    let sound = records-sound _ c.args.i pre.1 pre.2 in (
+    let k : Walked g r l.at c.rows-test.present = elim c.rows-test.branch [
+      | else-rows-test w ↦ walked-nowhere g r l.at (w.present-is ∙ l.invariant.1) (record { before = l.invariant.2; there = λ h. absurd (omega arith) })
+      | then-rows-test+then-key-row w ↦ walked-nowhere g r l.at (w.present-is ∙ l.invariant.1) (record { before = l.invariant.2; there = λ h. omega arith })
+      | then-rows-test+else-key-row+then-key-row-2+else-kind-eq-INSERT w ↦ walked-there g r l.at w.present-is (omega arith) (sym w.row_key-row.ensures ∙ sym w.if-key-row-2.true) w.if-kind-eq-INSERT.false
+    ] in
+    let fits : fit_record g r ≡ true = elim c.if-not-present.branch [
+      | then-not-present+else-kind-ne-INSERT w ↦ fits-nowhere _ _ l.at (register-sound _ c.requires.0) (k.nowhere w.if-not-present.true) w.if-kind-ne-INSERT.false
+      | else-not-present w ↦ let t = k.there w.if-not-present.false in fits-there _ _ l.at t.0 t.1 t.2
+    ] in
+    let sound = records-sound _ c.args.i c.requires.1 c.requires.2 in (
       l.invariant.0 ∙ o.invariant.0,
-      skips o.invariant.1 (omega arith) (ap not (ap (fit_record (register_in c.args.register.now)) (sym e) ∙ fits)),
-      λ k q m n p. omega (arith, l.invariant.2 k m, ap record_key e, larger-record ((set_at (sheet_in c.args.sheet.now) c.args.i)) sound o.j q (omega arith) (omega arith)),
+      skips o.invariant.1 (omega arith) (ap not (ap (fit_record g) (sym e) ∙ fits)),
+      λ k q m n p. omega (arith, l.invariant.2 k m, ap record_key e, larger-record s sound o.j q (omega arith) (omega arith)),
     )
 
 pub returns-after-records : goal.returns-after-records
@@ -65,18 +63,31 @@ returns-after-records c = let o = c.records in
     o.invariant.0 ∙ sym (ap first_key (ends o.invariant.1 (omega arith)))
 
 pub returns-then-kind-eq-INSERT : goal.returns-then-kind-eq-INSERT
-returns-then-kind-eq-INSERT c = let h : c.rows.at < length (register_in c.args.register.now).rows = omega arith in
-    (λ e. ap (λ (q : Record). Key q.key) c.record-r.ensures
-    ∙ sym (ap first_key (stops c.records.invariant.1 (omega arith) (ap not (ap (fit_record (register_in c.args.register.now)) (sym c.record-r.ensures) ∙ e))))) (wrong-there _ _ c.rows.at h (sym c.row_key-row.ensures ∙ sym c.if-key-row-2.true) c.if-kind-eq-INSERT.true)
+unfolding wrong_key first_key
+returns-then-kind-eq-INSERT c =
+    let g = register_in c.args.register.now in
+    let s = set_at (sheet_in c.args.sheet.now) c.args.i in
+    let r = c.record-r.result in
+    let e = c.record-r.ensures in
+    let o = c.records in
+    let l = c.rows in
+    let h : l.at < length g.rows = omega arith in
+    let wrong : fit_record g r ≡ false = wrong-there _ _ l.at h (sym c.row_key-row.ensures ∙ sym c.if-key-row-2.true) c.if-kind-eq-INSERT.true in
+    ap (λ (q : Record). Key q.key) e ∙ sym (ap first_key (stops o.invariant.1 (omega arith) (ap not (ap (fit_record g) (sym e) ∙ wrong))))
 
 pub returns-then-kind-ne-INSERT : goal.returns-then-kind-ne-INSERT
-returns-then-kind-ne-INSERT c = (λ e. ap (λ (q : Record). Key q.key) c.record-r.ensures
-    ∙ sym (ap first_key (stops c.records.invariant.1 (omega arith) (ap not (ap (fit_record (register_in c.args.register.now)) (sym c.record-r.ensures) ∙ e))))) (wrong-nowhere _ _ c.rows.at (register-sound _ c.requires.0) (((let r = c.record-r.result in
-    let g = (register_in c.args.register.now) in
+unfolding wrong_key first_key
+returns-then-kind-ne-INSERT c =
+    let g = register_in c.args.register.now in
+    let s = set_at (sheet_in c.args.sheet.now) c.args.i in
+    let r = c.record-r.result in
+    let e = c.record-r.ensures in
+    let o = c.records in
     let l = c.rows in
-    ⊎_elim
-    (λ v. walked-nowhere g r l.at (v.1 ∙ l.invariant.1) (record { before = l.invariant.2; there = λ h. absurd (omega (arith, v.0)) }))
-    (λ v. ⊎_elim
-    (λ u. walked-nowhere g r l.at (u.3 ∙ l.invariant.1) (record { before = l.invariant.2; there = λ h. omega (arith, u.1.ensures, u.2.taken) }))
-    (λ u. walked-there g r l.at u.5 (omega (arith, u.0.taken)) (sym u.1.ensures ∙ sym u.3.taken) u.4.left) v)
-    c.rows-test.branch)).nowhere (not-true _ c.if-not-present.true-raw)) c.if-kind-ne-INSERT.true)
+    let k : Walked g r l.at c.rows-test.present = elim c.rows-test.branch [
+      | else-rows-test w ↦ walked-nowhere g r l.at (w.present-is ∙ l.invariant.1) (record { before = l.invariant.2; there = λ h. absurd (omega arith) })
+      | then-rows-test+then-key-row w ↦ walked-nowhere g r l.at (w.present-is ∙ l.invariant.1) (record { before = l.invariant.2; there = λ h. omega arith })
+      | then-rows-test+else-key-row+then-key-row-2+else-kind-eq-INSERT w ↦ walked-there g r l.at w.present-is (omega arith) (sym w.row_key-row.ensures ∙ sym w.if-key-row-2.true) w.if-kind-eq-INSERT.false
+    ] in
+    let wrong : fit_record g r ≡ false = wrong-nowhere _ _ l.at (register-sound _ c.requires.0) (k.nowhere c.if-not-present.true) c.if-kind-ne-INSERT.true in
+    ap (λ (q : Record). Key q.key) e ∙ sym (ap first_key (stops o.invariant.1 (omega arith) (ap not (ap (fit_record g) (sym e) ∙ wrong))))

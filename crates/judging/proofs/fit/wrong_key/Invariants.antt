@@ -18,7 +18,7 @@ decreases-rows l = l.rows - l.at
 abbrev pub invariant-records : goal.invariant-records
 invariant-records l = (l.wrong ≡ None)
     × From (λ r. not (fit_record (register_in l.register) r)) (set_at (sheet_in l.sheet) l.i) (first_wrong (register_in l.register) (set_at (sheet_in l.sheet) l.i)) l.j
-    × ((k l : ℕ) → k < l.at → l.j ≤ l → l < l.records → (row_at (register_in l.register) k).key < (record_at (set_at (sheet_in l.sheet) l.i) l).key)
+    × ((k m : ℕ) → k < l.at → l.j ≤ m → m < l.records → (row_at (register_in l.register) k).key < (record_at (set_at (sheet_in l.sheet) l.i) m).key)
 
 abbrev pub decreases-records : goal.decreases-records
 decreases-records l = l.records - l.j

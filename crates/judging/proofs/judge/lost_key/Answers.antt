@@ -1,22 +1,14 @@
 -- The set wins the keys of all records before record j.
-use Rattle.std.proofs.Common.{◌≡◌, refl, sym, ◌∙◌, ap, arith, rules, not}
-use borrow.Author.Tests.{not-true, not-false}
-use Rattle.rules.specs.Register.{Register}
-use Rattle.rules.specs.Closing.{wins, first_lost}
-use Rattle.sheets.specs.SheetReadings.{record_at}
+use Rattle.std.proofs.Common.{refl, sym, ◌∙◌, ap, arith, rules, not}
+use Rattle.rules.specs.Sheet.{sheet_in}
+use Rattle.rules.specs.Closing.{first_lost}
+use Rattle.sheets.specs.SheetReadings.{set_at, record_at}
 use Rattle.judging.specs.declared.key.FirstKey.TheVariants.{Key}
 use Rattle.judging.specs.Answers.{first_key}
-use Rattle.judging.specs.Tables.{wrong_key, lost_key, Tells}
+use Rattle.judging.specs.Tables.{lost_key}
 use Rattle.judging.proofs.Firsts.{skips, stops, ends}
 use Rattle.judging.proofs.WinnerLaws.{won}
 use Rattle.judging.proofs.judge.lost_key.Goals as goal
-
--- whether set i wins the key of record j
-wins-it : (c : tie.After-won-by invariant-loop decreases-loop) (g : Register) → Tells (wrong_key g) (sheet c) (start c).args.wrong.now
-    → wins g (sheet c) (set c) (record_at (set c) (turn c).loop.j).key ≡ c.won-by.result
-wins-it c g t =
-    sym (c.won-by.ensures
-    ∙ won g (sheet c) (set c) (record_at (set c) (turn c).loop.j) c.before.before.record-key.ensures (turn c).before.set-csn.ensures (c.before.winner.ensures g t))
 
 pub loop-j-init : goal.loop-j-init
 unfolding first_lost
@@ -28,12 +20,16 @@ record_key-key-requires c = (search rules, search rules, omega arith)
 pub returns-then-not-won_by : goal.returns-then-not-won_by
 unfolding lost_key first_key
 returns-then-not-won_by c = let l = c.loop-j in
+    let s = sheet_in c.args.sheet.now in
+    let w = set_at s c.args.i in
     λ g t. ap Key c.record_key-key.ensures
-    ∙ sym (ap first_key (stops (l.invariant.1 g t) (omega arith) (ap not (wins-it c g t ∙ not-true _ c.if-not-won_by.true-raw))))
+    ∙ sym (ap first_key (stops (l.invariant.1 g t) (omega arith) (ap not (sym (c.won_by.ensures ∙ won g s w (record_at w l.j) c.record_key-key.ensures c.set_csn-csn.ensures (c.winner.ensures g t)) ∙ c.if-not-won_by.true))))
 
 pub loop-j-preserved : goal.loop-j-preserved
 loop-j-preserved c = let l = c.loop-j in
-    (omega arith, λ g t. skips (l.invariant.1 g t) (omega arith) (ap not (wins-it c g t ∙ not-false _ c.if-not-won_by.false-raw)))
+    let s = sheet_in c.args.sheet.now in
+    let w = set_at s c.args.i in
+    (omega arith, λ g t. skips (l.invariant.1 g t) (omega arith) (ap not (sym (c.won_by.ensures ∙ won g s w (record_at w l.j) c.record_key-key.ensures c.set_csn-csn.ensures (c.winner.ensures g t)) ∙ c.if-not-won_by.false)))
 
 pub returns : goal.returns
 unfolding lost_key first_key

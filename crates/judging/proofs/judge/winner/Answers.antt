@@ -1,10 +1,11 @@
 -- The set that leads among those before set i.
-use Rattle.std.proofs.Common.{sym, ◌∙◌, ap, ⊎_elim, arith, rules}
+use Rattle.std.proofs.Common.{sym, ◌∙◌, ap, arith, rules}
 use Rattle.laws.specs.SheetLaws.{sheet-sound}
 use Rattle.laws.specs.Says.{clash}
 use Rattle.judging.specs.Answers.{earlier_of}
 use Rattle.judging.proofs.WinnerLaws.{lead-start, lead-more, lead-same, lead-wins}
 use Rattle.judging.proofs.judge.winner.Goals as goal
+use Rattle.judging.proofs.judge.winner.Goals.{then-claims, else-claims}
 
 pub loop-i-init : goal.loop-i-init
 loop-i-init c = (omega arith, lead-start _ _ _)
@@ -21,11 +22,11 @@ loop-i-preserved c = let l = c.loop-i in
     let sound = sheet-sound _ c.requires.0 in
     let told = c.claims.ensures in (
       omega arith,
-      ⊎_elim
-          (λ w. rw (w.3 ∙ w.2.ensures ∙ ap (earlier_of l.lead) w.1.ensures)
-          (lead-more _ a.wrong.now a.key l.i l.lead sound (omega arith) l.invariant.1 (sym told ∙ w.0.taken)))
-          (λ w. rw w.1 (lead-same _ a.wrong.now a.key l.i l.lead l.invariant.1 (λ d. clash (told ∙ d) w.0.left)))
-          c.if-claims.branch,
+      elim c.if-claims.branch [
+        | then-claims w ↦ rw (w.lead-is ∙ w.earlier_of-lead.ensures ∙ ap (earlier_of l.lead) w.mark_of.ensures)
+            (lead-more _ a.wrong.now a.key l.i l.lead sound (omega arith) l.invariant.1 (sym told ∙ w.if-claims.true))
+        | else-claims w ↦ rw w.lead-is (lead-same _ a.wrong.now a.key l.i l.lead l.invariant.1 (λ d. clash (told ∙ d) w.if-claims.false))
+      ],
     )
 
 pub returns : goal.returns
