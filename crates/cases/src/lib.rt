@@ -1,5 +1,6 @@
 // Gathering and closing, each operation run on the numbers and the inputs of a case, and what is printed of what it answered and left.
 #![tactic(auto)]
+
 mod head;
 mod operation;
 

@@ -1,5 +1,6 @@
 // The closing program's input: a register, and the sheet of all sheets joined.
 #![tactic(auto)]
+
 mod join;
 mod reading;
 

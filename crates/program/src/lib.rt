@@ -1,5 +1,6 @@
 // The closing program: a register and then one or more sheets are read, the sheets are joined, the epoch is closed, and the report written.
 #![tactic(auto)]
+
 mod closed;
 
 ghost use Rattle.std.specs.Prelude.{◌≤◌, length};
