@@ -1,5 +1,6 @@
 // Closing an epoch, over the forms' promises alone.
 #![tactic(auto)]
+
 mod epoch;
 mod verdicts;
 

@@ -1,18 +1,18 @@
 -- Bad form is refused before all else.
-use Rattle.laws.specs.Says.{said-no, said-yes}
+use Rattle.std.proofs.Common.{sym, ◌∙◌}
 use Rattle.laws.specs.Meets.{refuses-closing}
 use Rattle.closing.proofs.CloseLaws.{alike, close-1, close-2, close-on}
 use Rattle.closing.proofs.epoch.close.Goals as goal
 
 pub returns-then-not-is_register : goal.returns-then-not-is_register
-returns-then-not-is_register c = refuses-closing _ _ _ _ (close-1 _ _ _ _ (said-no c.is_register.ensures c.if-not-is_register.true-raw))
+returns-then-not-is_register c = refuses-closing _ _ _ _ (close-1 _ _ _ _ (sym c.is_register.ensures ∙ c.if-not-is_register.true))
 
 pub returns-then-not-is_sheet : goal.returns-then-not-is_sheet
-returns-then-not-is_sheet c = refuses-closing _ _ _ _ (close-2 _ _ _ _ (said-yes c.is_register.ensures c.if-not-is_register.false-raw) (said-no c.is_sheet.ensures c.if-not-is_sheet.true-raw))
+returns-then-not-is_sheet c = refuses-closing _ _ _ _ (close-2 _ _ _ _ (sym c.is_register.ensures ∙ c.if-not-is_register.false) (sym c.is_sheet.ensures ∙ c.if-not-is_sheet.true))
 
 pub close_sheet-requires : goal.close_sheet-requires
-close_sheet-requires c = (said-yes c.is_register.ensures c.if-not-is_register.false-raw, said-yes c.is_sheet.ensures c.if-not-is_sheet.false-raw)
+close_sheet-requires c = (sym c.is_register.ensures ∙ c.if-not-is_register.false, sym c.is_sheet.ensures ∙ c.if-not-is_sheet.false)
 
 pub returns : goal.returns
-returns c = alike (close-on _ _ _ _ (said-yes c.is_register.ensures c.if-not-is_register.false-raw) (said-yes c.is_sheet.ensures c.if-not-is_sheet.false-raw))
+returns c = alike (close-on _ _ _ _ (sym c.is_register.ensures ∙ c.if-not-is_register.false) (sym c.is_sheet.ensures ∙ c.if-not-is_sheet.false))
     c.close_sheet.ensures

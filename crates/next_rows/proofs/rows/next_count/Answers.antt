@@ -10,15 +10,17 @@ pub overflow_add-result : goal.overflow_add-result
 overflow_add-result c = record { fits = omega (arith, (sound_register→ _ (register-sound _ c.requires.is-register)).few, c.applied_count.ensures.0) }
 
 pub overflow_sub-result : goal.overflow_sub-result
-overflow_sub-result c = omega (
-  arith,
-  (let counts : length (rows_next c.args.register.now c.args.sheet.now c.args.lost.now) + c.applied_count-2.result ≡ c.row_count.result + c.applied_count.result = let p = c.requires in
-      omega (arith, counted _ _ _ p.chosen (register-sound _ p.is-register) (sheet-sound _ p.is-sheet), c.applied_count.ensures.1, c.applied_count-2.ensures.1, c.row_count.ensures) in counts),
-)
+overflow_sub-result c =
+    let p = c.requires in
+    let counts : length (rows_next c.args.register.now c.args.sheet.now c.args.lost.now) + c.applied_count-2.result ≡ c.row_count.result + c.applied_count.result =
+    omega (arith, counted _ _ _ p.chosen (register-sound _ p.is-register) (sheet-sound _ p.is-sheet), c.applied_count.ensures.1, c.applied_count-2.ensures.1, c.row_count.ensures)
+    in
+    omega arith
 
 pub returns : goal.returns
-returns c = omega (
-  arith,
-  (let counts : length (rows_next c.args.register.now c.args.sheet.now c.args.lost.now) + c.applied_count-2.result ≡ c.row_count.result + c.applied_count.result = let p = c.requires in
-      omega (arith, counted _ _ _ p.chosen (register-sound _ p.is-register) (sheet-sound _ p.is-sheet), c.applied_count.ensures.1, c.applied_count-2.ensures.1, c.row_count.ensures) in counts),
-)
+returns c =
+    let p = c.requires in
+    let counts : length (rows_next c.args.register.now c.args.sheet.now c.args.lost.now) + c.applied_count-2.result ≡ c.row_count.result + c.applied_count.result =
+    omega (arith, counted _ _ _ p.chosen (register-sound _ p.is-register) (sheet-sound _ p.is-sheet), c.applied_count.ensures.1, c.applied_count-2.ensures.1, c.row_count.ensures)
+    in
+    omega arith

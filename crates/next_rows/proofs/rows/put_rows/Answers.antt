@@ -11,35 +11,35 @@ loop-next-init c = let pre = c.requires in
 
 pub put_old-d-requires : goal.put_old-d-requires
 put_old-d-requires c = let l = c.loop-next in
-    let is = (same_turn _ _ _ c.in-Old.is c.next_turn.ensures) in
+    let is = same_turn _ _ _ c.in-Old.is c.next_turn.ensures in
     (c.requires.0, is.0, old-room _ _ _ c.requires.0 _ _ c.requires.1 l.invariant is.0 is.1)
 
 pub overflow_add-i : goal.overflow_add-i
-overflow_add-i c = let is = (same_turn _ _ _ c.in-Old.is c.next_turn.ensures) in
+overflow_add-i c = let is = same_turn _ _ _ c.in-Old.is c.next_turn.ensures in
     record { fits = omega (arith, is.0, (sound_register→ _ (register-sound _ c.requires.0.is-register)).few) }
 
 pub loop-next-smaller-in-Old : goal.loop-next-smaller-in-Old
-loop-next-smaller-in-Old c = let is = (same_turn _ _ _ c.in-Old.is c.next_turn.ensures) in
+loop-next-smaller-in-Old c = let is = same_turn _ _ _ c.in-Old.is c.next_turn.ensures in
     omega (arith, is.0)
 
 pub loop-next-preserved-in-Old : goal.loop-next-preserved-in-Old
 loop-next-preserved-in-Old c = let l = c.loop-next in
-    let is = (same_turn _ _ _ c.in-Old.is c.next_turn.ensures) in
+    let is = same_turn _ _ _ c.in-Old.is c.next_turn.ensures in
     standing-old _ _ _ c.requires.0 _ _ c.requires.1 l.invariant is.0 is.1 c.put_old-d.ensures
 
 pub put_insert-d-requires : goal.put_insert-d-requires
 put_insert-d-requires c = let l = c.loop-next in
-    let is = (same_turn _ _ _ c.in-Insert.is c.next_turn.ensures) in
+    let is = same_turn _ _ _ c.in-Insert.is c.next_turn.ensures in
     let j = c.requires.0 in
     (j.is-sheet, j.lost-places, insert-room _ _ _ j _ _ c.requires.1 l.invariant is)
 
 pub loop-next-smaller : goal.loop-next-smaller
-loop-next-smaller c = let is = (same_turn _ _ _ c.in-Insert.is c.next_turn.ensures) in
+loop-next-smaller c = let is = same_turn _ _ _ c.in-Insert.is c.next_turn.ensures in
     omega (arith, keys-fall _ _ c.next_insert-insert-in-Insert.result is.0 (search rules) c.next_insert-insert-in-Insert.ensures)
 
 pub loop-next-preserved : goal.loop-next-preserved
 loop-next-preserved c = let l = c.loop-next in
-    let is = (same_turn _ _ _ c.in-Insert.is c.next_turn.ensures) in
+    let is = same_turn _ _ _ c.in-Insert.is c.next_turn.ensures in
     let j = c.requires.0 in
     standing-insert _ _ _ j _ _ c.requires.1 l.invariant is c.next_insert-insert-in-Insert.result c.put_insert-d.ensures c.next_insert-insert-in-Insert.ensures
 
