@@ -1,5 +1,6 @@
 // The closing program on standard input: its text goes to standard output.
 #![tactic(auto)]
+
 use report::REPORT_ROOM;
 
 // The descriptors that every program is started with.
@@ -13,9 +14,6 @@ fn main() {
     let mut out = [0u8; REPORT_ROOM];
     let n = program::run(STANDARD_INPUT, &mut out);
     if !io::write_all(STANDARD_OUTPUT, &out[..n]) {
-        io::write_all(
-            STANDARD_ERROR,
-            b"close: the output could not be written\n",
-        );
+        io::write_all(STANDARD_ERROR, b"close: the output could not be written\n");
     }
 }

@@ -1,5 +1,6 @@
 // The desk's operations, run on the numbers and the inputs of a case.
 #![tactic(auto)]
+
 mod bridges;
 mod sets;
 mod visits;
