@@ -1,9 +1,10 @@
 // The closing program on the inputs of docs/LESSONS.md, and on inputs that end early or are refused: each file's name, and what is
 // printed of it.
 #![tactic(auto)]
+
 use report::REPORT_ROOM;
-use std::os::fd::AsRawFd;
 use std::fs::File;
+use std::os::fd::AsRawFd;
 
 fn run_file(rt: &HostRuntime, name: &str) {
     match File::open(rt, name) {

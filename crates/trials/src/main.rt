@@ -1,11 +1,12 @@
 // Runs the cases of the files that its arguments name, and prints a line of each. The layout of a case stands in rust/vectors.
 #![tactic(auto)]
+
 mod case;
 
 use case::run_case;
 use std::env;
-use std::os::fd::AsRawFd;
 use std::fs::File;
+use std::os::fd::AsRawFd;
 
 // Every case of an open file. At most 4,294,967,295 are run, so that no file keeps the program for ever.
 fn run_cases(file: i32) {
