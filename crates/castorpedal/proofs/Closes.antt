@@ -30,9 +30,9 @@ small : (g : Register) (s : Sheet) → length (next_rows g s) ≤ max_rows → l
 unfolding closing next
 small g s h k = (omega (arith, register-long (next g s), length-fits (length (next_rows g s)) h), omega (arith, verdicts-long g s))
 
-pub close-fits : (register sheet : Bytes) (nextRoom room : ℕ) (c : Closing) → close_outcome register sheet nextRoom room ≡ done c → Small c
-close-fits register sheet nextRoom room c p =
-    let q = closes→ register sheet nextRoom room c p in
+pub close-fits : (register sheet : Bytes) (next_room room : ℕ) (c : Closing) → close_outcome register sheet next_room room ≡ done c → Small c
+close-fits register sheet next_room room c p =
+    let q = closes→ register sheet next_room room c p in
     let h = q.2 in
     let few = (sound_sheet→ q.1 (written_read sheet q.1 h.reads-sheet).1).few in
     subst Small (sym q.3) (small q.0 q.1 h.few few)

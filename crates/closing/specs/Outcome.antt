@@ -20,9 +20,9 @@ verdict_by None None = Commit
 
 -- the closing of a complete sheet of the right epoch: what is left of the chain of refusals
 unfoldable pub close_complete : Register → Sheet → ℕ → ℕ → Outcome Closing
-close_complete g s nextRoom room =
+close_complete g s next_room room =
     if ltb max_rows (length (next_rows g s)) then refused 8 else
-    if ltb nextRoom register_room or ltb room verdict_room then refused 9 else
+    if ltb next_room register_room or ltb room verdict_room then refused 9 else
     done (closing g s)
 
 -- a buffer that held `before` has a register over it, and n is its length

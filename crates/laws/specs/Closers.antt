@@ -45,14 +45,14 @@ abbrev pub refuses_with : Refusal → Bytes → Bytes → Left
 refuses_with x next verdicts = record { answer = Refused x; next = next; verdicts = verdicts }
 
 -- nothing refuses the closing of this register and this sheet
-pub record Closes (r t : Bytes) (nextRoom room : ℕ) (g : Register) (s : Sheet) : Type 0 where
+pub record Closes (r t : Bytes) (next_room room : ℕ) (g : Register) (s : Sheet) : Type 0 where
   pub reads-register : read_register r ≡ some g
   pub reads-sheet : read_sheet t ≡ some s
   pub follows : s.epoch ≡ g.snapshot + 1
   pub unspoiled : s.spoiled ≡ false
   pub all-sent : complete s ≡ true
   pub few : length (next_rows g s) ≤ max_rows
-  pub next-room : register_room ≤ nextRoom
+  pub next-room : register_room ≤ next_room
   pub verdict-room : verdict_room ≤ room
 
 -- DEMAND 2

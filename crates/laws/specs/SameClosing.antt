@@ -14,8 +14,8 @@ use Rattle.laws.specs.FairTrees.{FairTree}
 use Rattle.laws.specs.SameBytes.{SameOffers, same_bytes, same_ended}
 
 -- buffers that are long enough for closing: 28,680 for the next register, 320 for the verdicts
-pub record LongEnough (nextRoom room : ℕ) : Type 0 where
-  pub for-register : register_room ≤ nextRoom
+pub record LongEnough (next_room room : ℕ) : Type 0 where
+  pub for-register : register_room ≤ next_room
   pub for-verdicts : verdict_room ≤ room
 
 -- such buffers do what the shortest such ones do

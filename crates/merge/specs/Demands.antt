@@ -94,8 +94,8 @@ pub record FirstDemand : Type 0 where
       → RefusedExactly (to_notice sheet epoch master number room) (notice_outcome sheet epoch master number room)
       (sheet_bytes (with_offer (sheet_in sheet) (a_notice (record { master = master; number = number }))))
   pub joins : (a b : Bytes) (room : ℕ) → RefusedExactly (to_join a b room) (join_outcome a b room) (sheet_bytes (joined (sheet_in a) (sheet_in b)))
-  pub closes : (register sheet : Bytes) (nextRoom room : ℕ)
-      → RefusedExactly (to_close register sheet nextRoom room) (close_outcome register sheet nextRoom room) (closing (register_in register) (sheet_in sheet))
+  pub closes : (register sheet : Bytes) (next_room room : ℕ)
+      → RefusedExactly (to_close register sheet next_room room) (close_outcome register sheet next_room room) (closing (register_in register) (sheet_in sheet))
   pub checks : (register : Bytes) (mode lsn : ℕ) (keys csns : List ℕ)
       → RefusedExactly (to_check register mode lsn (reads_of keys csns)) (check_outcome register mode lsn keys csns)
       (check_from (register_in register) mode lsn 0 (entries_of (reads_of keys csns)))
@@ -112,11 +112,11 @@ pub record FirstDemand : Type 0 where
   -- What the read check answers is the first failing entry, or that none fails.
   pub first-failing : (g : Register) (mode lsn : ℕ) (entries : List Read) → reading.Tells g mode lsn 0 entries (check_from g mode lsn 0 entries)
   -- It examines forms itself: what is no register is refused with 1, what is no sheet with 2, an ill-formed offer with 3, each before what has a larger number.
-  pub close-examines-register : (register sheet : Bytes) (nextRoom room : ℕ) → read_register register ≡ none → close_outcome register sheet nextRoom room ≡ refused 1
+  pub close-examines-register : (register sheet : Bytes) (next_room room : ℕ) → read_register register ≡ none → close_outcome register sheet next_room room ≡ refused 1
   pub check-examines-register : (register : Bytes) (mode lsn : ℕ) (keys csns : List ℕ) → read_register register ≡ none → check_outcome register mode lsn keys csns ≡ refused 1
   pub reads-examines-register : (register : Bytes) (mode lsn : ℕ) (entries : List Read) → read_register register ≡ none → reads_outcome register mode lsn entries ≡ refused 1
-  pub close-examines-sheet : (register sheet : Bytes) (nextRoom room : ℕ) (g : Register) → read_register register ≡ some g → read_sheet sheet ≡ none
-      → close_outcome register sheet nextRoom room ≡ refused 2
+  pub close-examines-sheet : (register sheet : Bytes) (next_room room : ℕ) (g : Register) → read_register register ≡ some g → read_sheet sheet ≡ none
+      → close_outcome register sheet next_room room ≡ refused 2
   pub put-examines-sheet : (sheet : Bytes) (epoch sen csn : ℕ) (records : Bytes) (room : ℕ) → read_sheet sheet ≡ none → put_outcome sheet epoch sen csn records room ≡ refused 2
   pub notice-examines-sheet : (sheet : Bytes) (epoch master number room : ℕ) → read_sheet sheet ≡ none → notice_outcome sheet epoch master number room ≡ refused 2
   pub join-examines-first : (a b : Bytes) (room : ℕ) → read_sheet a ≡ none → join_outcome a b room ≡ refused 2

@@ -110,19 +110,19 @@ closing g s = record { register = register_bytes (next g s); verdicts = flat ver
 
 -- closing of a register and a sheet, each of them none if ill-formed
 unfoldable pub close_sheet : Option Register → Option Sheet → ℕ → ℕ → Outcome Closing
-close_sheet none s nextRoom room = refused 1
-close_sheet (some g) none nextRoom room = refused 2
-close_sheet (some g) (some s) nextRoom room =
+close_sheet none s next_room room = refused 1
+close_sheet (some g) none next_room room = refused 2
+close_sheet (some g) (some s) next_room room =
     if not (eqb s.epoch (g.snapshot + 1)) then refused 4 else
     if s.spoiled then refused 6 else
     if not (complete s) then refused 7 else
     if ltb max_rows (length (next_rows g s)) then refused 8 else
-    if ltb nextRoom register_room or ltb room verdict_room then refused 9 else
+    if ltb next_room register_room or ltb room verdict_room then refused 9 else
     done (closing g s)
 
 -- CLOSE
 unfoldable pub close_outcome : Bytes → Bytes → ℕ → ℕ → Outcome Closing
-close_outcome register sheet nextRoom room = close_sheet (read_register register) (read_sheet sheet) nextRoom room
+close_outcome register sheet next_room room = close_sheet (read_register register) (read_sheet sheet) next_room room
 
 -- a mode, lsn and entries that the read check refuses: an unknown mode, a key 0, over 32 entries, lsn above the snapshot
 unfoldable pub bad_check : Register → ℕ → ℕ → List Read → Bool

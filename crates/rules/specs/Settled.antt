@@ -139,4 +139,5 @@ settled-entering o before {a} {b} p q = (same-entered a b (p.answered ∙ sym q.
 -- AND OF OFFERING
 pub settled-offering : (o : Outcome Bytes) (before : OpenSet) (out : Bytes) {a b : Answer} {after after' : OpenSet} {out₁ out₂ : Bytes}
     → OfferPromise o before out a after out₁ → OfferPromise o before out b after' out₂ → (a ≡ b) × (after ≡ after') × (out₁ ≡ out₂)
-settled-offering o before out p q = let s = settled o out p.sheet q.sheet in (s.0, p.open-set ∙ sym q.open-set, s.1)
+settled-offering o before out {a} {b} p q =
+    (same_answer a b (p.sheet.answered ∙ sym q.sheet.answered), p.open-set ∙ sym q.open-set, p.sheet.buffer ∙ sym q.sheet.buffer)
