@@ -12,14 +12,14 @@ use Rattle.rules.specs.Promises.{CheckPromise}
 use Rattle.castorpedal.specs.declared.answer.CChecked.{CChecked}
 use Rattle.castorpedal.specs.Exported.{ToldChecked, KeptCheck}
 
-pub pass-told : {a : Checked} → a ≡ Pass → ToldChecked a (record { code = 0; index = 0; key = 0; reason = 0 })
-pass-told p = record { numbers = sym (ap checked_numbers p) }
+pub pass_told : {a : Checked} → a ≡ Pass → ToldChecked a (record { code = 0; index = 0; key = 0; reason = 0 })
+pass_told p = record { numbers = sym (ap checked_numbers p) }
 
-pub fails-told : {a : Checked} {i k n : ℕ} {x : Reason} → a ≡ Fails i k x → n ≡ reason_number x → ToldChecked a (record { code = 0; index = i; key = k; reason = n })
-fails-told {i = i} {k = k} p q = record { numbers = ap (λ (m : ℕ). (0, i, k, m)) q ∙ sym (ap checked_numbers p) }
+pub fails_told : {a : Checked} {i k n : ℕ} {x : Reason} → a ≡ Fails i k x → n ≡ reason_number x → ToldChecked a (record { code = 0; index = i; key = k; reason = n })
+fails_told {i = i} {k = k} p q = record { numbers = ap (λ (m : ℕ). (0, i, k, m)) q ∙ sym (ap checked_numbers p) }
 
-pub refusal-told : {a : Checked} {n : ℕ} {x : Refusal} → a ≡ Refused x → n ≡ refusal_number x → ToldChecked a (record { code = n; index = 0; key = 0; reason = 0 })
-refusal-told p q = record { numbers = ap (λ (m : ℕ). (m, 0, 0, 0)) q ∙ sym (ap checked_numbers p) }
+pub refusal_told : {a : Checked} {n : ℕ} {x : Refusal} → a ≡ Refused x → n ≡ refusal_number x → ToldChecked a (record { code = n; index = 0; key = 0; reason = 0 })
+refusal_told p q = record { numbers = ap (λ (m : ℕ). (m, 0, 0, 0)) q ∙ sym (ap checked_numbers p) }
 
-pub kept-check : (o : Outcome Finding) {a : Checked} {r : CChecked} → CheckPromise o a → ToldChecked a r → KeptCheck o r
-kept-check o p t = record { answered = t.numbers ∙ p.answered }
+pub kept_check : (o : Outcome Finding) {a : Checked} {r : CChecked} → CheckPromise o a → ToldChecked a r → KeptCheck o r
+kept_check o p t = record { answered = t.numbers ∙ p.answered }

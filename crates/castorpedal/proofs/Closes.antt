@@ -15,8 +15,8 @@ use Rattle.rules.specs.Refused.{Outcome, refused, done, Closing, register_room, 
 use Rattle.rules.specs.Promises.{told_closing, ClosePromise}
 use Rattle.laws.specs.SheetLaws.{sound_sheet→, written_read}
 use Rattle.laws.specs.Closers.{closes→}
-use Rattle.laws.specs.VerdictLength.{verdicts-long}
-use Rattle.registers.specs.RegisterWritten.{length-fits, register-long}
+use Rattle.laws.specs.VerdictLength.{verdicts_long}
+use Rattle.registers.specs.RegisterWritten.{length_fits, register_long}
 use Rattle.castorpedal.specs.declared.answer.CClosed.{CClosed}
 use Rattle.castorpedal.specs.Exported.{WithinClosed, ToldClosed, KeptClose}
 
@@ -28,34 +28,34 @@ Small c = (length c.register ≤ register_room) × (length c.verdicts ≤ verdic
 
 small : (g : Register) (s : Sheet) → length (next_rows g s) ≤ max_rows → length s.sets ≤ max_sets → Small (closing g s)
 unfolding closing next
-small g s h k = (omega (arith, register-long (next g s), length-fits (length (next_rows g s)) h), omega (arith, verdicts-long g s))
+small g s h k = (omega (arith, register_long (next g s), length_fits (length (next_rows g s)) h), omega (arith, verdicts_long g s))
 
-pub close-fits : (register sheet : Bytes) (next_room room : ℕ) (c : Closing) → close_outcome register sheet next_room room ≡ done c → Small c
-close-fits register sheet next_room room c p =
+pub close_fits : (register sheet : Bytes) (next_room room : ℕ) (c : Closing) → close_outcome register sheet next_room room ≡ done c → Small c
+close_fits register sheet next_room room c p =
     let q = closes→ register sheet next_room room c p in
     let h = q.2 in
-    let few = (sound_sheet→ q.1 (written_read sheet q.1 h.reads-sheet).1).few in
+    let few = (sound_sheet→ q.1 (written_read sheet q.1 h.reads_sheet).1).few in
     subst Small (sym q.3) (small q.0 q.1 h.few few)
 
 -- ---- how the export keeps its promise
 
-pub within-closed : (o : Outcome Closing) (a : Closed) → closed_numbers a ≡ told_closing o → ((c : Closing) → o ≡ done c → Small c) → WithinClosed a
+pub within_closed : (o : Outcome Closing) (a : Closed) → closed_numbers a ≡ told_closing o → ((c : Closing) → o ≡ done c → Small c) → WithinClosed a
 unfolding told_closing
-within-closed (refused n) (Wrote k m) p f = let q = ap (λ (x : ℕ × ℕ × ℕ). x.1) p in let r = ap (λ (x : ℕ × ℕ × ℕ). x.2) p in omega arith
-within-closed (done c) (Wrote k m) p f = let q = ap (λ (x : ℕ × ℕ × ℕ). x.1) p in let r = ap (λ (x : ℕ × ℕ × ℕ). x.2) p in omega (arith, f c refl)
-within-closed o (Refused x) p f = tt
+within_closed (refused n) (Wrote k m) p f = let q = ap (λ (x : ℕ × ℕ × ℕ). x.1) p in let r = ap (λ (x : ℕ × ℕ × ℕ). x.2) p in omega arith
+within_closed (done c) (Wrote k m) p f = let q = ap (λ (x : ℕ × ℕ × ℕ). x.1) p in let r = ap (λ (x : ℕ × ℕ × ℕ). x.2) p in omega (arith, f c refl)
+within_closed o (Refused x) p f = tt
 
-pub kept-close : (o : Outcome Closing) (before-next before-verdicts : Bytes) {a : Closed} {r : CClosed} {after_next after-verdicts : Bytes}
+pub kept_close : (o : Outcome Closing) (before-next before-verdicts : Bytes) {a : Closed} {r : CClosed} {after_next after-verdicts : Bytes}
     → ClosePromise o before-next before-verdicts a after_next after-verdicts → ToldClosed a r → KeptClose o before-next before-verdicts r after_next after-verdicts
-kept-close o before-next before-verdicts p t = record { answered = t.numbers ∙ p.answered; next = p.next; verdicts = p.verdicts }
+kept_close o before-next before-verdicts p t = record { answered = t.numbers ∙ p.answered; next = p.next; verdicts = p.verdicts }
 
 -- ---- an answer's cases
 
-pub wrote-within : {a : Closed} {n m : ℕ} → WithinClosed a → a ≡ Wrote n m → (n ≤ register_room) × (m ≤ verdict_room)
-wrote-within w p = rw p at w
+pub wrote_within : {a : Closed} {n m : ℕ} → WithinClosed a → a ≡ Wrote n m → (n ≤ register_room) × (m ≤ verdict_room)
+wrote_within w p = rw p at w
 
-pub wrote-told : {a : Closed} {n m : ℕ} → a ≡ Wrote n m → ToldClosed a (record { code = 0; register_len = n; verdicts_len = m })
-wrote-told p = record { numbers = sym (ap closed_numbers p) }
+pub wrote_told : {a : Closed} {n m : ℕ} → a ≡ Wrote n m → ToldClosed a (record { code = 0; register_len = n; verdicts_len = m })
+wrote_told p = record { numbers = sym (ap closed_numbers p) }
 
-pub refused-told : {a : Closed} {x : Refusal} {n : ℕ} → a ≡ Refused x → n ≡ refusal_number x → ToldClosed a (record { code = n; register_len = 0; verdicts_len = 0 })
-refused-told p q = record { numbers = ap (λ (k : ℕ). (k, 0, 0)) q ∙ sym (ap closed_numbers p) }
+pub refused_told : {a : Closed} {x : Refusal} {n : ℕ} → a ≡ Refused x → n ≡ refusal_number x → ToldClosed a (record { code = n; register_len = 0; verdicts_len = 0 })
+refused_told p q = record { numbers = ap (λ (k : ℕ). (k, 0, 0)) q ∙ sym (ap closed_numbers p) }

@@ -21,70 +21,70 @@ use Rattle.laws.specs.Tests.{both}
 use Rattle.laws.specs.FormLaws.{→fits}
 use Rattle.laws.specs.SheetLaws.{sound_sheet→, written_read}
 use Rattle.laws.specs.GatherSound.{FairOffer, head_of}
-use Rattle.laws.specs.Joining.{joined-sound}
-use Rattle.laws.specs.OneOffer.{one-sound, put-joins}
-use Rattle.laws.specs.NotRefused.{refused-not, open→, offer→, set→, notice→, join-sound}
-use Rattle.sheets.specs.SheetSizes.{sheet-length, total-few, empty-length}
+use Rattle.laws.specs.Joining.{joined_sound}
+use Rattle.laws.specs.OneOffer.{one_sound, put_joins}
+use Rattle.laws.specs.NotRefused.{refused_not, open→, offer→, set→, notice→, join_sound}
+use Rattle.sheets.specs.SheetSizes.{sheet_length_lem, total_few, empty_length}
 use Rattle.castorpedal.specs.declared.answer.CAnswer.{CAnswer}
 use Rattle.castorpedal.specs.Exported.{Within, Told, Kept}
 
 -- ---- a sound sheet has no more bytes than its room
 
-pub sheet-room : (s : Sheet) → sound_sheet s ≡ true → length (sheet_bytes s) ≤ sheet_room
-sheet-room s e =
+pub sheet_room_lem : (s : Sheet) → sound_sheet s ≡ true → length (sheet_bytes s) ≤ sheet_room
+sheet_room_lem s e =
     let k = sound_sheet→ s e in
-    omega (arith, sheet-length s k.sixteen, total-few s.epoch s.roster s.sets k.sets, k.few)
+    omega (arith, sheet_length_lem s k.sixteen, total_few s.epoch s.roster s.sets k.sets, k.few)
 
 -- a sound sheet with a fair offer more is sound
-with-sound : (s : Sheet) (o : Offer) → sound_sheet s ≡ true → FairOffer s.epoch s.roster o → sound_sheet (with_offer s o) ≡ true
-with-sound s o h f =
-    let one = one-sound s.epoch s.roster o (head_of s h) f in
-    sym (ap sound_sheet (put-joins s s.roster o f)) ∙ joined-sound s (holding s.epoch s.roster (o ∷ [])) h one (unfold holding sound_of in refl) (unfold holding sound_of in refl)
+with_sound : (s : Sheet) (o : Offer) → sound_sheet s ≡ true → FairOffer s.epoch s.roster o → sound_sheet (with_offer s o) ≡ true
+with_sound s o h f =
+    let one = one_sound s.epoch s.roster o (head_of s h) f in
+    sym (ap sound_sheet (put_joins s s.roster o f)) ∙ joined_sound s (holding s.epoch s.roster (o ∷ [])) h one (unfold holding sound_of in refl) (unfold holding sound_of in refl)
 
 -- ---- so has every outcome of gathering
 
-fair-as : (e r : ℕ) {x y : Offer} → x ≡ y → FairOffer e r x → FairOffer e r y
-fair-as e r p f = rw p at f
+fair_as : (e r : ℕ) {x y : Offer} → x ≡ y → FairOffer e r x → FairOffer e r y
+fair_as e r p f = rw p at f
 
 -- an outcome that writes no more than a sheet may have
 abbrev pub Fits : Outcome Bytes → Type 0
 Fits o = (b : Bytes) → o ≡ done b → length b ≤ sheet_room
 
-pub open-fits : (e r room : ℕ) → e < 256 ^ 4 → r < 256 ^ 2 → Fits (open_outcome e r room)
-open-fits e r room h k b p =
+pub open_fits : (e r room : ℕ) → e < 256 ^ 4 → r < 256 ^ 2 → Fits (open_outcome e r room)
+open_fits e r room h k b p =
     let q = open→ e r room b p in
-    omega (arith, ap length q.2, empty-length e r)
+    omega (arith, ap length q.2, empty_length e r)
 
 -- an offer to a sheet, fair if it is taken
-offer-fits : (sheet : Bytes) (o : Option Offer) (e m room : ℕ) → ((s : Sheet) (x : Offer) → o ≡ some x → e ≡ s.epoch → in_roster s.roster m ≡ true → FairOffer s.epoch s.roster x)
+offer_fits : (sheet : Bytes) (o : Option Offer) (e m room : ℕ) → ((s : Sheet) (x : Offer) → o ≡ some x → e ≡ s.epoch → in_roster s.roster m ≡ true → FairOffer s.epoch s.roster x)
     → Fits (offer_to (read_sheet sheet) o e m room)
-offer-fits sheet o e m room f b p = go (read_sheet sheet) refl p
+offer_fits sheet o e m room f b p = go (read_sheet sheet) refl p
   where
     go : (r : Option Sheet) → read_sheet sheet ≡ r → offer_to r o e m room ≡ done b → length b ≤ sheet_room
-    go none q h = absurd (unfold offer_to in refused-not h)
+    go none q h = absurd (unfold offer_to in refused_not h)
     go (some s) q h =
         let x = offer→ s o e m room b h in
-        let w = with-sound s x.0 (written_read sheet s q).1 (f s x.0 x.1 x.2 x.3) in
-        omega (arith, ap length x.4, sheet-room (with_offer s x.0) w)
+        let w = with_sound s x.0 (written_read sheet s q).1 (f s x.0 x.1 x.2 x.3) in
+        omega (arith, ap length x.4, sheet_room_lem (with_offer s x.0) w)
 
-pub put-fits : (sheet : Bytes) (e sen csn : ℕ) (b : Bytes) (room : ℕ) → csn < 256 ^ 8 → Fits (put_outcome sheet e sen csn b room)
+pub put_fits : (sheet : Bytes) (e sen csn : ℕ) (b : Bytes) (room : ℕ) → csn < 256 ^ 8 → Fits (put_outcome sheet e sen csn b room)
 unfolding put_outcome
-put-fits sheet e sen csn b room h =
-    offer-fits sheet (offered_set e sen csn b) e (master_of csn) room
+put_fits sheet e sen csn b room h =
+    offer_fits sheet (offered_set e sen csn b) e (master_of csn) room
     (λ s x p q i.
     let w = set→ e sen csn b x p in
-    fair-as _ _ (sym w.0) (unfold sound_set in both (→fits 8 csn h) (both (ap (leb sen) (sym q) ∙ w.1) (both i w.2))))
+    fair_as _ _ (sym w.0) (unfold sound_set in both (→fits 8 csn h) (both (ap (leb sen) (sym q) ∙ w.1) (both i w.2))))
 
-pub notice-fits : (sheet : Bytes) (e m n room : ℕ) → Fits (notice_outcome sheet e m n room)
+pub notice_fits : (sheet : Bytes) (e m n room : ℕ) → Fits (notice_outcome sheet e m n room)
 unfolding notice_outcome
-notice-fits sheet e m n room =
-    offer-fits sheet (offered_notice e m n) e m room
-    (λ s x p q i. let w = notice→ e m n x p in fair-as _ _ (sym w.0) (omega (arith, w.1), w.2, i))
+notice_fits sheet e m n room =
+    offer_fits sheet (offered_notice e m n) e m room
+    (λ s x p q i. let w = notice→ e m n x p in fair_as _ _ (sym w.0) (omega (arith, w.1), w.2, i))
 
-pub join-fits : (a b : Bytes) (room : ℕ) → Fits (join_outcome a b room)
-join-fits a b room c p =
-    let w = join-sound a b room c p in
-    omega (arith, ap length w.2, sheet-room w.0 w.1)
+pub join_fits : (a b : Bytes) (room : ℕ) → Fits (join_outcome a b room)
+join_fits a b room c p =
+    let w = join_sound a b room c p in
+    omega (arith, ap length w.2, sheet_room_lem w.0 w.1)
 
 -- ---- how an export keeps its promise
 
@@ -99,11 +99,11 @@ kept o before p t = record { answered = t.numbers ∙ p.answered; buffer = p.buf
 
 -- ---- an answer's cases
 
-pub wrote-within : {a : Answer} {n : ℕ} → Within sheet_room a → a ≡ Wrote n → n ≤ sheet_room
-wrote-within w p = rw p at w
+pub wrote_within : {a : Answer} {n : ℕ} → Within sheet_room a → a ≡ Wrote n → n ≤ sheet_room
+wrote_within w p = rw p at w
 
-pub wrote-told : {a : Answer} {n : ℕ} → a ≡ Wrote n → Told a (record { code = 0; len = n })
-wrote-told p = record { numbers = sym (ap answer_numbers p) }
+pub wrote_told : {a : Answer} {n : ℕ} → a ≡ Wrote n → Told a (record { code = 0; len = n })
+wrote_told p = record { numbers = sym (ap answer_numbers p) }
 
-pub refused-told : {a : Answer} {x : Refusal} {n : ℕ} → a ≡ Refused x → n ≡ refusal_number x → Told a (record { code = n; len = 0 })
-refused-told p q = record { numbers = ap (λ (k : ℕ). (k, 0)) q ∙ sym (ap answer_numbers p) }
+pub refused_told : {a : Answer} {x : Refusal} {n : ℕ} → a ≡ Refused x → n ≡ refusal_number x → Told a (record { code = n; len = 0 })
+refused_told p q = record { numbers = ap (λ (k : ℕ). (k, 0)) q ∙ sym (ap answer_numbers p) }

@@ -22,14 +22,14 @@ use Rattle.castorpedal.specs.declared.answer.CChecked.{CChecked}
 use Rattle.castorpedal.specs.Exported.{Told, ToldClosed, ToldChecked, Kept, KeptClose, KeptCheck, KeptEnter, KeptOffer}
 
 -- OF AN OPERATION WITH ONE BUFFER
-pub as-promised : (q : Asked) (o : Outcome Bytes) (result : Bytes) → RefusedExactly q o result → (before after : Bytes) (r : CAnswer) → Kept o before r after
+pub as_promised : (q : Asked) (o : Outcome Bytes) (result : Bytes) → RefusedExactly q o result → (before after : Bytes) (r : CAnswer) → Kept o before r after
     → (a : Answer) × Promise o before a after × Told a r
 unfolding told left
-as-promised q o result h before after r k = go o refl k
+as_promised q o result h before after r k = go o refl k
   where
     go : (p : Outcome Bytes) → o ≡ p → Kept p before r after → (a : Answer) × Promise o before a after × Told a r
     go (refused n) e k =
-        let w = h.only-when n e in
+        let w = h.only_when n e in
         let c = ap {B = ℕ × ℕ} (λ (m : ℕ). (m, 0)) w.1 in (
           answer.Refused w.0,
           subst (λ (p : Outcome Bytes). Promise p before (answer.Refused w.0) after) (sym e) (record { answered = sym c; buffer = k.buffer }),
@@ -42,15 +42,15 @@ as-promised q o result h before after r k = go o refl k
     )
 
 -- OF CLOSING
-pub as-promised-closing : (q : Asked) (o : Outcome Closing) (result : Closing) → RefusedExactly q o result
+pub as_promised_closing : (q : Asked) (o : Outcome Closing) (result : Closing) → RefusedExactly q o result
     → (next verdicts next' verdicts' : Bytes) (r : CClosed) → KeptClose o next verdicts r next' verdicts'
     → (a : Closed) × ClosePromise o next verdicts a next' verdicts' × ToldClosed a r
 unfolding told_closing left_register left_verdicts
-as-promised-closing q o result h next verdicts next' verdicts' r k = go o refl k
+as_promised_closing q o result h next verdicts next' verdicts' r k = go o refl k
   where
     go : (p : Outcome Closing) → o ≡ p → KeptClose p next verdicts r next' verdicts' → (a : Closed) × ClosePromise o next verdicts a next' verdicts' × ToldClosed a r
     go (refused n) e k =
-        let w = h.only-when n e in
+        let w = h.only_when n e in
         let c = ap {B = ℕ × ℕ × ℕ} (λ (m : ℕ). (m, 0, 0)) w.1 in (
           closed.Refused w.0,
           subst (λ (p : Outcome Closing). ClosePromise p next verdicts (closed.Refused w.0) next' verdicts') (sym e)
@@ -65,14 +65,14 @@ as-promised-closing q o result h next verdicts next' verdicts' r k = go o refl k
     )
 
 -- OF THE READ CHECK
-pub as-promised-check : (q : Asked) (o : Outcome Finding) (result : Finding) → RefusedExactly q o result → (r : CChecked) → KeptCheck o r
+pub as_promised_check : (q : Asked) (o : Outcome Finding) (result : Finding) → RefusedExactly q o result → (r : CChecked) → KeptCheck o r
     → (a : Checked) × CheckPromise o a × ToldChecked a r
 unfolding told_finding
-as-promised-check q o result h r k = go o refl k
+as_promised_check q o result h r k = go o refl k
   where
     go : (p : Outcome Finding) → o ≡ p → KeptCheck p r → (a : Checked) × CheckPromise o a × ToldChecked a r
     go (refused n) e k =
-        let w = h.only-when n e in
+        let w = h.only_when n e in
         let c = ap {B = ℕ × ℕ × ℕ × ℕ} (λ (m : ℕ). (m, 0, 0, 0)) w.1 in (
           checked.Refused w.0,
           subst (λ (p : Outcome Finding). CheckPromise p (checked.Refused w.0)) (sym e) (record { answered = sym c }),
@@ -86,27 +86,27 @@ as-promised-check q o result h r k = go o refl k
     )
 
 -- OF ENTERING
-pub as-promised-entering : (q : Asked) (o : Outcome OpenSet) (result : OpenSet) → RefusedExactly q o result → (before after : OpenSet) (r : ℕ) → KeptEnter o before r after
+pub as_promised_entering : (q : Asked) (o : Outcome OpenSet) (result : OpenSet) → RefusedExactly q o result → (before after : OpenSet) (r : ℕ) → KeptEnter o before r after
     → (a : Entered) × EnterPromise o before a after × (r ≡ entered_number a)
 unfolding told_entering left_entering
-as-promised-entering q o result h before after r k = go o refl k
+as_promised_entering q o result h before after r k = go o refl k
   where
     go : (p : Outcome OpenSet) → o ≡ p → KeptEnter p before r after → (a : Entered) × EnterPromise o before a after × (r ≡ entered_number a)
     go (refused n) e k =
-        let w = h.only-when n e in (
+        let w = h.only_when n e in (
           entered.Refused w.0,
-          subst (λ (p : Outcome OpenSet). EnterPromise p before (entered.Refused w.0) after) (sym e) (record { answered = sym w.1; open-set = k.open-set }),
+          subst (λ (p : Outcome OpenSet). EnterPromise p before (entered.Refused w.0) after) (sym e) (record { answered = sym w.1; open_set = k.open_set }),
           k.answered ∙ w.1,
         )
     go (done b) e k = (
       entered.Added,
-      subst (λ (p : Outcome OpenSet). EnterPromise p before entered.Added after) (sym e) (record { answered = refl; open-set = k.open-set }),
+      subst (λ (p : Outcome OpenSet). EnterPromise p before entered.Added after) (sym e) (record { answered = refl; open_set = k.open_set }),
       k.answered,
     )
 
 -- OF OFFERING
-pub as-promised-offering : (q : Asked) (o : Outcome Bytes) (result : Bytes) → RefusedExactly q o result → (before after : OpenSet) (out out' : Bytes) (r : CAnswer)
+pub as_promised_offering : (q : Asked) (o : Outcome Bytes) (result : Bytes) → RefusedExactly q o result → (before after : OpenSet) (out out' : Bytes) (r : CAnswer)
     → KeptOffer o before out r after out' → (a : Answer) × OfferPromise o before out a after out' × Told a r
-as-promised-offering q o result h before after out out' r k =
-    let w = as-promised q o result h out out' r k.sheet in
-    (w.0, record { sheet = w.1; open-set = k.open-set }, w.2)
+as_promised_offering q o result h before after out out' r k =
+    let w = as_promised q o result h out out' r k.sheet in
+    (w.0, record { sheet = w.1; open_set = k.open_set }, w.2)

@@ -55,9 +55,9 @@ pub record KeptCheck (o : Outcome Finding) (r : CChecked) : Type 0 where
 -- of entering, which is lent the open set: 0, or the refusal's number
 pub record KeptEnter (o : Outcome OpenSet) (before : OpenSet) (r : ℕ) (after : OpenSet) : Type 0 where
   pub answered : r ≡ told_entering o
-  pub open-set : after ≡ left_entering o before
+  pub open_set : after ≡ left_entering o before
 
 -- of offering, which is lent the open set and a buffer for the sheet
 pub record KeptOffer (o : Outcome Bytes) (before : OpenSet) (before-out : Bytes) (r : CAnswer) (after : OpenSet) (after-out : Bytes) : Type 0 where
   pub sheet : Kept o before-out r after-out
-  pub open-set : after ≡ left_offering o before
+  pub open_set : after ≡ left_offering o before

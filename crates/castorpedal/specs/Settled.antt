@@ -27,19 +27,19 @@ pub settled : (o : Outcome Bytes) (before : Bytes) {a b : CAnswer} {after after'
 settled o before p q = (ap answer_of (p.answered ∙ sym q.answered), p.buffer ∙ sym q.buffer)
 
 -- OF CLOSING
-pub settled-closing : (o : Outcome Closing) (next verdicts : Bytes) {a b : CClosed} {n n' v v' : Bytes}
+pub settled_closing : (o : Outcome Closing) (next verdicts : Bytes) {a b : CClosed} {n n' v v' : Bytes}
     → KeptClose o next verdicts a n v → KeptClose o next verdicts b n' v' → (a ≡ b) × (n ≡ n') × (v ≡ v')
-settled-closing o next verdicts p q = (ap closed_of (p.answered ∙ sym q.answered), p.next ∙ sym q.next, p.verdicts ∙ sym q.verdicts)
+settled_closing o next verdicts p q = (ap closed_of (p.answered ∙ sym q.answered), p.next ∙ sym q.next, p.verdicts ∙ sym q.verdicts)
 
 -- OF THE READ CHECK
-pub settled-check : (o : Outcome Finding) {a b : CChecked} → KeptCheck o a → KeptCheck o b → a ≡ b
-settled-check o p q = ap checked_of (p.answered ∙ sym q.answered)
+pub settled_check : (o : Outcome Finding) {a b : CChecked} → KeptCheck o a → KeptCheck o b → a ≡ b
+settled_check o p q = ap checked_of (p.answered ∙ sym q.answered)
 
 -- OF ENTERING
-pub settled-entering : (o : Outcome OpenSet) (before : OpenSet) {r r' : ℕ} {after after' : OpenSet} → KeptEnter o before r after → KeptEnter o before r' after' → (r ≡ r') × (after ≡ after')
-settled-entering o before p q = (p.answered ∙ sym q.answered, p.open-set ∙ sym q.open-set)
+pub settled_entering : (o : Outcome OpenSet) (before : OpenSet) {r r' : ℕ} {after after' : OpenSet} → KeptEnter o before r after → KeptEnter o before r' after' → (r ≡ r') × (after ≡ after')
+settled_entering o before p q = (p.answered ∙ sym q.answered, p.open_set ∙ sym q.open_set)
 
 -- OF OFFERING
-pub settled-offering : (o : Outcome Bytes) (before : OpenSet) (out : Bytes) {a b : CAnswer} {after after' : OpenSet} {out₁ out₂ : Bytes}
+pub settled_offering : (o : Outcome Bytes) (before : OpenSet) (out : Bytes) {a b : CAnswer} {after after' : OpenSet} {out₁ out₂ : Bytes}
     → KeptOffer o before out a after out₁ → KeptOffer o before out b after' out₂ → (a ≡ b) × (after ≡ after') × (out₁ ≡ out₂)
-settled-offering o before out p q = let s = settled o out p.sheet q.sheet in (s.0, p.open-set ∙ sym q.open-set, s.1)
+settled_offering o before out p q = let s = settled o out p.sheet q.sheet in (s.0, p.open_set ∙ sym q.open_set, s.1)

@@ -19,13 +19,13 @@ use Rattle.rules.specs.Closing.{complete, verdicts}
 use Rattle.rules.specs.Becoming.{next_rows, next}
 use Rattle.rules.specs.Refused.{Outcome, refused, done, Closing, closing, register_room, verdict_room, verdict_bytes, close_sheet, close_outcome}
 use Rattle.rules.specs.Promises.{over, told_closing, left_register, left_verdicts, ClosePromise}
-use Rattle.laws.specs.RegisterLaws.{register-read, register-unread}
-use Rattle.laws.specs.SheetLaws.{sheet-read, sheet-unread}
-use Rattle.laws.specs.VerdictLength.{verdicts-long}
+use Rattle.laws.specs.RegisterLaws.{register_read, register_unread}
+use Rattle.laws.specs.SheetLaws.{sheet_read, sheet_unread}
+use Rattle.laws.specs.VerdictLength.{verdicts_long}
 use Rattle.forms.specs.VerdictForm.{verdicts_length}
 use Rattle.registers.specs.declared.writing.Draft.{Draft}
 use Rattle.registers.specs.RegisterWriting.{register_length, RowsPut, RowsFit, RowsAdded}
-use Rattle.registers.specs.RegisterWritten.{length-fits, register-long, finished}
+use Rattle.registers.specs.RegisterWritten.{length_fits, register_long, finished}
 use Rattle.closing.specs.Outcome.{close_complete, NextStands}
 
 -- the same of an equal outcome
@@ -35,55 +35,55 @@ alike e h = rw e h
 -- ---- bad form comes first
 
 module _ (r t : Bytes) (n m : ℕ) where
-  pub close-1 : is_register r ≡ false → close_outcome r t n m ≡ refused 1
+  pub close_1 : is_register r ≡ false → close_outcome r t n m ≡ refused 1
   unfolding close_outcome close_sheet
-  close-1 h = simp (register-unread r h)
+  close_1 h = simp (register_unread r h)
 
-  pub close-2 : is_register r ≡ true → is_sheet t ≡ false → close_outcome r t n m ≡ refused 2
+  pub close_2 : is_register r ≡ true → is_sheet t ≡ false → close_outcome r t n m ≡ refused 2
   unfolding close_outcome close_sheet
-  close-2 h k = simp (register-read r h, sheet-unread t k)
+  close_2 h k = simp (register_read r h, sheet_unread t k)
 
-  pub close-on : is_register r ≡ true → is_sheet t ≡ true → close_outcome r t n m ≡ close_sheet (some (register_in r)) (some (sheet_in t)) n m
+  pub close_on : is_register r ≡ true → is_sheet t ≡ true → close_outcome r t n m ≡ close_sheet (some (register_in r)) (some (sheet_in t)) n m
   unfolding close_outcome
-  close-on h k = simp (register-read r h, sheet-read t k)
+  close_on h k = simp (register_read r h, sheet_read t k)
 
 -- ---- then epoch, state and completeness
 
 module _ (g : Register) (s : Sheet) (n m : ℕ) where
-  pub sheet-4 : eqb s.epoch (g.snapshot + 1) ≡ false → close_sheet (some g) (some s) n m ≡ refused 4
+  pub sheet_4 : eqb s.epoch (g.snapshot + 1) ≡ false → close_sheet (some g) (some s) n m ≡ refused 4
   unfolding close_sheet
-  sheet-4 e = simp e
+  sheet_4 e = simp e
 
-  pub sheet-6 : eqb s.epoch (g.snapshot + 1) ≡ true → s.spoiled ≡ true → close_sheet (some g) (some s) n m ≡ refused 6
+  pub sheet_6 : eqb s.epoch (g.snapshot + 1) ≡ true → s.spoiled ≡ true → close_sheet (some g) (some s) n m ≡ refused 6
   unfolding close_sheet
-  sheet-6 e p = simp (e, p)
+  sheet_6 e p = simp (e, p)
 
-  pub sheet-7 : eqb s.epoch (g.snapshot + 1) ≡ true → s.spoiled ≡ false → complete s ≡ false → close_sheet (some g) (some s) n m ≡ refused 7
+  pub sheet_7 : eqb s.epoch (g.snapshot + 1) ≡ true → s.spoiled ≡ false → complete s ≡ false → close_sheet (some g) (some s) n m ≡ refused 7
   unfolding close_sheet
-  sheet-7 e p c = simp (e, p, c)
+  sheet_7 e p c = simp (e, p, c)
 
-  pub sheet-on : eqb s.epoch (g.snapshot + 1) ≡ true → s.spoiled ≡ false → complete s ≡ true → close_sheet (some g) (some s) n m ≡ close_complete g s n m
+  pub sheet_on : eqb s.epoch (g.snapshot + 1) ≡ true → s.spoiled ≡ false → complete s ≡ true → close_sheet (some g) (some s) n m ≡ close_complete g s n m
   unfolding close_sheet close_complete
-  sheet-on e p c = simp (e, p, c)
+  sheet_on e p c = simp (e, p, c)
 
   -- ---- then rows and room
 
-  pub complete-8 : max_rows < length (next_rows g s) → close_complete g s n m ≡ refused 8
+  pub complete_8 : max_rows < length (next_rows g s) → close_complete g s n m ≡ refused 8
   unfolding close_complete
-  complete-8 h = simp (lt-ltb max_rows (length (next_rows g s)) h)
+  complete_8 h = simp (lt-ltb max_rows (length (next_rows g s)) h)
 
   module _ (few : length (next_rows g s) ≤ max_rows) where
-    pub complete-9-next : n < register_room → close_complete g s n m ≡ refused 9
+    pub complete_9_next : n < register_room → close_complete g s n m ≡ refused 9
     unfolding close_complete ◌or◌
-    complete-9-next h = simp (le-ltb max_rows (length (next_rows g s)) few, lt-ltb n register_room h)
+    complete_9_next h = simp (le-ltb max_rows (length (next_rows g s)) few, lt-ltb n register_room h)
 
-    pub complete-9-verdicts : register_room ≤ n → m < verdict_room → close_complete g s n m ≡ refused 9
+    pub complete_9_verdicts : register_room ≤ n → m < verdict_room → close_complete g s n m ≡ refused 9
     unfolding close_complete ◌or◌
-    complete-9-verdicts h k = simp (le-ltb max_rows (length (next_rows g s)) few, le-ltb n register_room h, lt-ltb m verdict_room k)
+    complete_9_verdicts h k = simp (le-ltb max_rows (length (next_rows g s)) few, le-ltb n register_room h, lt-ltb m verdict_room k)
 
-    complete-done : register_room ≤ n → verdict_room ≤ m → close_complete g s n m ≡ done (closing g s)
+    complete_done : register_room ≤ n → verdict_room ≤ m → close_complete g s n m ≡ done (closing g s)
     unfolding close_complete ◌or◌
-    complete-done h k = simp (le-ltb max_rows (length (next_rows g s)) few, le-ltb n register_room h, le-ltb m verdict_room k)
+    complete_done h k = simp (le-ltb max_rows (length (next_rows g s)) few, le-ltb n register_room h, le-ltb m verdict_room k)
 
 -- ---- what is written
 
@@ -94,21 +94,21 @@ module _ (rows : List Row) (few : length rows ≤ max_rows) where
   next_fits {d = d} snap room n p =
       record {
         few = rw n few;
-        room = rw (n, p.long) (omega (arith, length-fits (length rows) few));
+        room = rw (n, p.long) (omega (arith, length_fits (length rows) few));
         left = omega (arith, n, p.put);
       }
 
   -- once its rows are put the next register stands, and it is as long as its draft says
-  pub next-stands : (snapshot : ℕ) {before mid after : Bytes} {d e : Draft} (snap : ℕ) → snap ≡ snapshot → register_room ≤ length before → d.rows ≡ length rows
+  pub next_stands : (snapshot : ℕ) {before mid after : Bytes} {d e : Draft} (snap : ℕ) → snap ≡ snapshot → register_room ≤ length before → d.rows ≡ length rows
       → RowsPut snap [] before d mid → RowsAdded rows d mid e after → {r : ℕ} → r ≡ register_length e.rows
       → NextStands (record { snapshot = snapshot; rows = rows }) before r after
-  next-stands snapshot {before} {e = e} snap epoch room n p q {r} long =
+  next_stands snapshot {before} {e = e} snap epoch room n p q {r} long =
       let g : Register = record { snapshot = snapshot; rows = rows } in
       let many : e.rows ≡ length rows = q.same ∙ n in
-      let wide : register_length e.rows ≤ length before = rw many (omega (arith, length-fits (length rows) few)) in
+      let wide : register_length e.rows ≤ length before = rw many (omega (arith, length_fits (length rows) few)) in
       record {
         bytes = finished g many wide (rw epoch at (q.behind snap [] before p));
-        long = long ∙ ap register_length many ∙ sym (register-long g);
+        long = long ∙ ap register_length many ∙ sym (register_long g);
       }
 
 -- the rows that are written are the next rows
@@ -118,9 +118,9 @@ pub closes : (g : Register) (s : Sheet) {rows : List Row} → rows ≡ next_rows
 unfolding told_closing left_register left_verdicts closing next
 closes g s e few a b {a'} n m h k stands f q =
     let p : NextStands (next g s) a n a' = rw e at stands in
-    alike (complete-done g s (length a) (length b) (rw e at few) h k)
+    alike (complete_done g s (length a) (length b) (rw e at few) h k)
     (record {
-      answered = λ i. (0, p.long i, (f ∙ sym (verdicts-long g s)) i);
+      answered = λ i. (0, p.long i, (f ∙ sym (verdicts_long g s)) i);
       next = p.bytes;
       verdicts = q;
     })

@@ -18,7 +18,7 @@ use Rattle.rules.specs.Closing.{first_wrong, first_lost, judged, verdict, verdic
 use Rattle.rules.specs.Refused.{verdict_room, verdict_bytes}
 use Rattle.rules.specs.Promises.{over}
 use Rattle.sheets.specs.SheetReadings.{set_at, no_set}
-use Rattle.forms.specs.VerdictWriting.{VerdictsPut, VerdictAdded, none-put, verdicts-stand}
+use Rattle.forms.specs.VerdictWriting.{VerdictsPut, VerdictAdded, none_put, verdicts_stand}
 use Rattle.judging.specs.declared.key.FirstKey.{FirstKey}
 use Rattle.judging.specs.declared.key.FirstKey.TheVariants.{Key, None}
 use Rattle.judging.specs.Answers.{first_key}
@@ -27,51 +27,51 @@ use Rattle.closing.specs.Outcome.{verdict_by}
 
 -- by which of the two keys there is
 module _ (wrong lost : FirstKey) where
-  pub by-wrong : {k : ℕ} → wrong ≡ Key k → Unfit k ≡ verdict_by wrong lost
+  pub by_wrong : {k : ℕ} → wrong ≡ Key k → Unfit k ≡ verdict_by wrong lost
   unfolding verdict_by
-  by-wrong p = rw p refl
+  by_wrong p = rw p refl
 
-  pub by-lost : {k : ℕ} → wrong ≡ None → lost ≡ Key k → Lost k ≡ verdict_by wrong lost
+  pub by_lost : {k : ℕ} → wrong ≡ None → lost ≡ Key k → Lost k ≡ verdict_by wrong lost
   unfolding verdict_by
-  by-lost p q = rw (p, q) refl
+  by_lost p q = rw (p, q) refl
 
-  pub by-none : wrong ≡ None → lost ≡ None → Commit ≡ verdict_by wrong lost
+  pub by_none : wrong ≡ None → lost ≡ None → Commit ≡ verdict_by wrong lost
   unfolding verdict_by
-  by-none p q = rw (p, q) refl
+  by_none p q = rw (p, q) refl
 
-pub verdict-by : (g : Register) (s : Sheet) (w : WriteSet) → verdict_by (wrong_key g w) (lost_key g s w) ≡ verdict g s w
+pub verdict_by_lem : (g : Register) (s : Sheet) (w : WriteSet) → verdict_by (wrong_key g w) (lost_key g s w) ≡ verdict g s w
 unfolding verdict wrong_key lost_key
-verdict-by g s w = go (first_wrong g w) (first_lost g s w)
+verdict_by_lem g s w = go (first_wrong g w) (first_lost g s w)
   where
     go : (a b : Option Record) → verdict_by (first_key a) (first_key b) ≡ judged a b
     go (some r) b = unfold verdict_by first_key judged in refl
     go none (some r) = unfold verdict_by first_key judged in refl
     go none none = unfold verdict_by first_key judged in refl
 
-take-map-more : {A B : Type 0} (f : A → B) (d : A) (xs : List A) (i : ℕ) → i < length xs → take (suc i) (map f xs) ≡ take i (map f xs) ++ (f (get_or xs i d) ∷ [])
-take-map-more f d [] i h = absurd (omega arith)
-take-map-more f d (x ∷ xs) zero h = refl
-take-map-more f d (x ∷ xs) (suc i) h = ap (λ (l : List _). f x ∷ l) (take-map-more f d xs i (omega arith))
+take_map_more : {A B : Type 0} (f : A → B) (d : A) (xs : List A) (i : ℕ) → i < length xs → take (suc i) (map f xs) ≡ take i (map f xs) ++ (f (get_or xs i d) ∷ [])
+take_map_more f d [] i h = absurd (omega arith)
+take_map_more f d (x ∷ xs) zero h = refl
+take_map_more f d (x ∷ xs) (suc i) h = ap (λ (l : List _). f x ∷ l) (take_map_more f d xs i (omega arith))
 
 -- the verdicts of the first i sets
 unfoldable pub first_verdicts : Register → Sheet → ℕ → List Verdict
 first_verdicts g s i = take i (verdicts g s)
 
 module _ (g : Register) (s : Sheet) (l₀ : Bytes) where
-  pub verdicts-start : VerdictsPut (first_verdicts g s 0) l₀ l₀
+  pub verdicts_start : VerdictsPut (first_verdicts g s 0) l₀ l₀
   unfolding first_verdicts
-  verdicts-start = none-put
+  verdicts_start = none_put
 
-  pub verdicts-step : (i : ℕ) {l₁ l₂ : Bytes} (v : Verdict) → i < length s.sets → v ≡ verdict g s (set_at s i) → VerdictsPut (first_verdicts g s i) l₀ l₁ → VerdictAdded i v l₁ l₂
+  pub verdicts_step : (i : ℕ) {l₁ l₂ : Bytes} (v : Verdict) → i < length s.sets → v ≡ verdict g s (set_at s i) → VerdictsPut (first_verdicts g s i) l₀ l₁ → VerdictAdded i v l₁ l₂
       → VerdictsPut (first_verdicts g s (i + 1)) l₀ l₂
   unfolding first_verdicts verdicts set_at
-  verdicts-step i v h e p q =
+  verdicts_step i v h e p q =
       let n : length (take i (map (verdict g s) s.sets)) ≡ i = length-take-le i (map (verdict g s) s.sets) (omega (arith, length-map s.sets (verdict g s))) in
-      rw (add-one i, take-map-more (verdict g s) no_set s.sets i h, sym e) (q.behind (take i (map (verdict g s) s.sets)) l₀ n p)
+      rw (add-one i, take_map_more (verdict g s) no_set s.sets i h, sym e) (q.behind (take i (map (verdict g s) s.sets)) l₀ n p)
 
-  pub verdicts-end : (i : ℕ) {l : Bytes} → length s.sets ≤ i → length s.sets ≤ max_sets → verdict_room ≤ length l₀ → VerdictsPut (first_verdicts g s i) l₀ l
+  pub verdicts_end : (i : ℕ) {l : Bytes} → length s.sets ≤ i → length s.sets ≤ max_sets → verdict_room ≤ length l₀ → VerdictsPut (first_verdicts g s i) l₀ l
       → l ≡ over l₀ (flat verdict_bytes (verdicts g s))
   unfolding first_verdicts verdicts
-  verdicts-end i h few room p =
+  verdicts_end i h few room p =
       let all = take_all i (map (verdict g s) s.sets) (omega (arith, length-map s.sets (verdict g s))) in
-      verdicts-stand (map (verdict g s) s.sets) (omega (arith, length-map s.sets (verdict g s))) (rw all at p)
+      verdicts_stand (map (verdict g s) s.sets) (omega (arith, length-map s.sets (verdict g s))) (rw all at p)

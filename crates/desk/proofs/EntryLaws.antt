@@ -26,19 +26,19 @@ unfolding ◌and◌ ◌or◌
 well a b c e f = simp (e, left b c f, right b c f)
 
 module _ (o : OpenSet) (kind : ℕ) (tag : Bytes) (value : ℕ) where
-  pub no-visit : is_kind kind and sound_value kind value ≡ false → enter_outcome o kind tag value ≡ refused 3
+  pub no_visit : is_kind kind and sound_value kind value ≡ false → enter_outcome o kind tag value ≡ refused 3
   unfolding enter_outcome
-  no-visit e = simp (ill (is_open_set o) (is_kind kind) (sound_value kind value) e)
+  no_visit e = simp (ill (is_open_set o) (is_kind kind) (sound_value kind value) e)
 
   module _ (is : is_open_set o ≡ true) (visit : is_kind kind and sound_value kind value ≡ true) where
-    pub no-tag : is_tag tag ≡ false → enter_outcome o kind tag value ≡ refused 11
+    pub no_tag : is_tag tag ≡ false → enter_outcome o kind tag value ≡ refused 11
     unfolding enter_outcome
-    no-tag e = simp (well (is_open_set o) (is_kind kind) (sound_value kind value) is visit, e)
+    no_tag e = simp (well (is_open_set o) (is_kind kind) (sound_value kind value) is visit, e)
 
     module _ (key : ℕ) (tagged : (is_tag tag ≡ true) × (key_in tag ≡ key)) where
-      pub key-there : has_key key (open_records o) ≡ true → enter_outcome o kind tag value ≡ refused 12
+      pub key_there : has_key key (open_records o) ≡ true → enter_outcome o kind tag value ≡ refused 12
       unfolding enter_outcome
-      key-there e = simp (well (is_open_set o) (is_kind kind) (sound_value kind value) is visit, tagged.0, tagged.1, e)
+      key_there e = simp (well (is_open_set o) (is_kind kind) (sound_value kind value) is visit, tagged.0, tagged.1, e)
 
       module _ (new : has_key key (open_records o) ≡ false) where
         pub ninth : leb max_records (length (open_records o)) ≡ true → enter_outcome o kind tag value ≡ refused 13

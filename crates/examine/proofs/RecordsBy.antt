@@ -17,28 +17,28 @@ use Rattle.rules.specs.Forms.{well_formed}
 use Rattle.rules.specs.Sheet.{record_key, is_kind, sound_value, sound_record, record_bytes, records_bytes, record_in, records_in, max_records, offered_records, sound_records, are_records}
 use Rattle.laws.specs.Tests.{left, right, both, same_tests}
 use Rattle.laws.specs.FormLaws.{fits→, →fits, same→}
-use Rattle.laws.specs.SheetLaws.{records-length, records-count}
+use Rattle.laws.specs.SheetLaws.{records_length, records_count}
 use Rattle.laws.specs.Says.{Says, is_lt, is_le, is_eq, itself, shaped, retold, ◌also◌, ◌so◌}
 use Rattle.examine.specs.SheetForm.{zeros, record_ok, body_ok, records_ok}
-use Rattle.laws.specs.BytesHere.{Octets, octets, and_assoc, and-true, byte-here, itself-here, word-here}
+use Rattle.laws.specs.BytesHere.{Octets, octets, and_assoc, and_true, byte_here, itself_here, word_here}
 
 -- a kind, and a value of 64 bits that it may have
-pub value-says : (kind value : ℕ) → value < 256 ^ 8 → Says (is_kind kind and sound_value kind value) (((1 ≤ kind) × (kind ≤ 3)) × (kind ≡ 3 → value ≡ 0))
+pub value_says : (kind value : ℕ) → value < 256 ^ 8 → Says (is_kind kind and sound_value kind value) (((1 ≤ kind) × (kind ≤ 3)) × (kind ≡ 3 → value ≡ 0))
 unfolding is_kind sound_value
-value-says kind value h =
+value_says kind value h =
     shaped (λ r. (r.0, r.1.1)) (λ r. (r.0, (→fits 8 value h, r.1)))
     ((is_le 1 kind also is_le kind 3) also (itself (fits 8 value) also ◌so◌ (is_eq kind 3) (is_eq value 0)))
 
 -- of which the 64 bits are a part
-pub value-told : (kind value : ℕ) → is_kind kind and sound_value kind value ≡ true → ((1 ≤ kind) × (kind ≤ 3)) × (kind ≡ 3 → value ≡ 0)
-value-told kind value e = (value-says kind value (fits→ 8 value (unfold sound_value in left _ _ (right (is_kind kind) _ e)))).told e
+pub value_told : (kind value : ℕ) → is_kind kind and sound_value kind value ≡ true → ((1 ≤ kind) × (kind ≤ 3)) × (kind ≡ 3 → value ≡ 0)
+value_told kind value e = (value_says kind value (fits→ 8 value (unfold sound_value in left _ _ (right (is_kind kind) _ e)))).told e
 
 -- what is tested of a record, as facts
-pub record-tests : (prev : ℕ) (b : Bytes) (at : ℕ)
+pub record_tests : (prev : ℕ) (b : Bytes) (at : ℕ)
     → Says (record_ok prev b at)
     (((1 ≤ get_or b at 0) × (get_or b at 0 ≤ 3)) × (((0 ≡ get_or b (at + 1) 0) × ((0 ≡ get_or b (at + 2) 0) × (0 ≡ get_or b (at + 3) 0))) × ((prev < word 4 b (at + 4)) × (get_or b at 0 ≡ 3 → word 8 b (at + 8) ≡ 0))))
 unfolding record_ok is_kind zeros
-record-tests prev b at =
+record_tests prev b at =
     (is_le _ _ also is_le _ _) also (is_eq _ _ also is_eq _ _ also is_eq _ _) also is_lt _ _ also ◌so◌ (is_eq _ _) (is_eq _ _)
 
 -- one record, and those behind it
@@ -47,10 +47,10 @@ unfolding body_ok
 body_more zero prev b at h = absurd (omega arith)
 body_more (suc n) prev b at h = let e : suc n - 1 ≡ n = omega arith in rw e
 
-pub body-none : (n prev : ℕ) (b : Bytes) (at : ℕ) → n ≤ 0 → body_ok n prev b at ≡ true
+pub body_none : (n prev : ℕ) (b : Bytes) (at : ℕ) → n ≤ 0 → body_ok n prev b at ≡ true
 unfolding body_ok
-body-none zero prev b at h = refl
-body-none (suc n) prev b at h = absurd (omega arith)
+body_none zero prev b at h = refl
+body_none (suc n) prev b at h = absurd (omega arith)
 
 -- three zero bytes in each of n records
 pub zeros_in : ℕ → Bytes → ℕ → Bool
@@ -59,40 +59,40 @@ zeros_in (suc n) b at = zeros b at and zeros_in n b (at + 16)
 
 module _ (b : Bytes) (o : Octets b) where
   -- a record is written as the bytes that it was read from if these have the zeros
-  record-here : (at : ℕ) (rest : Bytes) → at + 16 ≤ length b
+  record_here : (at : ℕ) (rest : Bytes) → at + 16 ≤ length b
       → same (record_bytes (record_in b at) ++ rest) (drop at b) ≡ zeros b at and same rest (drop (at + 16) b)
   unfolding record_bytes record_in zeros
-  record-here at rest h =
+  record_here at rest h =
       let l₈ = le 8 (word 8 b (at + 8)) ++ rest in
       let l₄ = le 4 (word 4 b (at + 4)) ++ l₈ in
       let apart : record_bytes (record_in b at) ++ rest ≡ get_or b at 0 ∷ 0 ∷ 0 ∷ 0 ∷ l₄ = simp append_assoc in
       rw (
         apart,
-        itself-here b at (at + 1) (0 ∷ 0 ∷ 0 ∷ l₄) refl (omega arith),
-        byte-here b 0 (at + 1) (at + 2) (0 ∷ 0 ∷ l₄) (omega arith) (omega arith),
-        byte-here b 0 (at + 2) (at + 3) (0 ∷ l₄) (omega arith) (omega arith),
-        byte-here b 0 (at + 3) (at + 4) l₄ (omega arith) (omega arith),
-        word-here b o 4 (at + 4) (at + 8) l₈ (omega arith) (omega arith),
-        word-here b o 8 (at + 8) (at + 16) rest (omega arith) (omega arith),
+        itself_here b at (at + 1) (0 ∷ 0 ∷ 0 ∷ l₄) refl (omega arith),
+        byte_here b 0 (at + 1) (at + 2) (0 ∷ 0 ∷ l₄) (omega arith) (omega arith),
+        byte_here b 0 (at + 2) (at + 3) (0 ∷ l₄) (omega arith) (omega arith),
+        byte_here b 0 (at + 3) (at + 4) l₄ (omega arith) (omega arith),
+        word_here b o 4 (at + 4) (at + 8) l₈ (omega arith) (omega arith),
+        word_here b o 8 (at + 8) (at + 16) rest (omega arith) (omega arith),
         and_assoc,
         and_assoc,
       )
 
-  pub records-here : (n at : ℕ) (rest : Bytes) → at + 16 * n ≤ length b
+  pub records_here : (n at : ℕ) (rest : Bytes) → at + 16 * n ≤ length b
       → same (records_bytes (records_in n b at) ++ rest) (drop at b) ≡ zeros_in n b at and same rest (drop (at + 16 * n) b)
   unfolding records_bytes records_in flat zeros_in ◌and◌
-  records-here zero at rest h = let e : at + 16 * 0 ≡ at = omega arith in rw e
-  records-here (suc n) at rest h =
+  records_here zero at rest h = let e : at + 16 * 0 ≡ at = omega arith in rw e
+  records_here (suc n) at rest h =
       let e : at + 16 * suc n ≡ at + 16 + 16 * n = omega arith in
       let r = record_bytes (record_in b at) in
       let rs = records_bytes (records_in n b (at + 16)) in
       ap (λ (l : Bytes). same l (drop at b)) (append_assoc r rs rest)
-      ∙ record-here at (rs ++ rest) (omega arith)
-      ∙ rw (records-here n (at + 16) rest (omega arith), e, ← and_assoc)
+      ∙ record_here at (rs ++ rest) (omega arith)
+      ∙ rw (records_here n (at + 16) rest (omega arith), e, ← and_assoc)
 
-  record-says : (prev at : ℕ) → Says (record_ok prev b at) ((prev < word 4 b (at + 4)) × (sound_record (record_in b at) ≡ true) × (zeros b at ≡ true))
+  record_says : (prev at : ℕ) → Says (record_ok prev b at) ((prev < word 4 b (at + 4)) × (sound_record (record_in b at) ≡ true) × (zeros b at ≡ true))
   unfolding record_ok sound_record sound_value record_in
-  record-says prev at =
+  record_says prev at =
       let key = →fits 4 (word 4 b (at + 4)) (word_fits 4 b (at + 4) o) in
       let value = →fits 8 (word 8 b (at + 8)) (word_fits 8 b (at + 8) o) in
       record {
@@ -102,13 +102,13 @@ module _ (b : Bytes) (o : Octets b) where
       }
 
   -- a body's tests: its keys ascend, its records are sound, and the zeros are there
-  pub body-says : (n prev at : ℕ)
+  pub body_says : (n prev at : ℕ)
       → Says (body_ok n prev b at) ((ascend_from prev (map record_key (records_in n b at)) ≡ true) × (all sound_record (records_in n b at) ≡ true) × (zeros_in n b at ≡ true))
   unfolding body_ok records_in record_in zeros_in all ascend_from
-  body-says zero prev at = record { told = λ e. (refl, refl, refl); test = λ f. refl }
-  body-says (suc n) prev at =
-      let here = record-says prev at in
-      let rest = body-says n (word 4 b (at + 4)) (at + 16) in
+  body_says zero prev at = record { told = λ e. (refl, refl, refl); test = λ f. refl }
+  body_says (suc n) prev at =
+      let here = record_says prev at in
+      let rest = body_says n (word 4 b (at + 4)) (at + 16) in
       record {
         told = λ e.
             let h = here.told (left _ _ e) in
@@ -124,26 +124,26 @@ module _ (b : Bytes) (o : Octets b) where
   set_says n at =
       record {
         told = λ e.
-            let r = (body-says n 0 at).told (right _ _ (right _ _ e)) in
-            (rw (records-count n b at) (both (left _ _ e) (both (left _ _ (right _ _ e)) (both r.0 r.1))), r.2);
+            let r = (body_says n 0 at).told (right _ _ (right _ _ e)) in
+            (rw (records_count n b at) (both (left _ _ e) (both (left _ _ (right _ _ e)) (both r.0 r.1))), r.2);
         test = λ f.
-            let s = rw (records-count n b at) at f.0 in
+            let s = rw (records_count n b at) at f.0 in
             let t = right _ _ (right _ _ s) in
-            both (left _ _ s) (both (left _ _ (right _ _ s)) ((body-says n 0 at).test (left _ _ t, right _ _ t, f.1)));
+            both (left _ _ s) (both (left _ _ (right _ _ s)) ((body_says n 0 at).test (left _ _ t, right _ _ t, f.1)));
       }
 
   -- bytes of the right length are written again if the zeros are there
-  records-written : (n : ℕ) → length b ≡ 16 * n → same (records_bytes (records_in n b 0)) b ≡ zeros_in n b 0
+  records_written : (n : ℕ) → length b ≡ 16 * n → same (records_bytes (records_in n b 0)) b ≡ zeros_in n b 0
   unfolding same
-  records-written n e =
+  records_written n e =
       let rs = records_bytes (records_in n b 0) in
       let none : drop (0 + 16 * n) b ≡ [] = drop_of_length-le b {i = 0 + 16 * n} (omega arith) in
-      ap (λ (l : Bytes). same l b) (sym (append-nil rs)) ∙ records-here n 0 [] (omega arith) ∙ rw none (and-true (zeros_in n b 0))
+      ap (λ (l : Bytes). same l b) (sym (append-nil rs)) ∙ records_here n 0 [] (omega arith) ∙ rw none (and_true (zeros_in n b 0))
 
   -- WHAT A PROGRAM TESTS OF AN OFFERED SET'S RECORDS
-  pub are-records-by : are_records b ≡ records_ok b
+  pub are_records_by : are_records b ≡ records_ok b
   unfolding are_records well_formed offered_records records_ok
-  are-records-by = same_tests (are_records b) (records_ok b) to from
+  are_records_by = same_tests (are_records b) (records_ok b) to from
     where
       n : ℕ
       n = length b / 16
@@ -152,17 +152,17 @@ module _ (b : Bytes) (o : Octets b) where
       to e =
           let rs = records_in n b 0 in
           let w : records_bytes rs ≡ b = same→ (records_bytes rs) b (right _ _ e) in
-          let long : length b ≡ 16 * n = sym (ap length w) ∙ records-length rs ∙ ap (λ (k : ℕ). 16 * k) (records-count n b 0) in
-          both (eq-eqb (length b % 16) 0 (omega arith)) ((set_says n 0).test (left _ _ e, sym (records-written n long) ∙ right _ _ e))
+          let long : length b ≡ 16 * n = sym (ap length w) ∙ records_length rs ∙ ap (λ (k : ℕ). 16 * k) (records_count n b 0) in
+          both (eq-eqb (length b % 16) 0 (omega arith)) ((set_says n 0).test (left _ _ e, sym (records_written n long) ∙ right _ _ e))
 
       from : records_ok b ≡ true → are_records b ≡ true
       from e =
           let whole : length b % 16 ≡ 0 = eqb-true _ _ (left _ _ e) in
           let f = (set_says n 0).told (right _ _ e) in
-          both f.0 (records-written n (omega arith) ∙ f.1)
+          both f.0 (records_written n (omega arith) ∙ f.1)
 
 -- the same in the facts that `are_records` tests, of bytes as a slice has them
-pub records-says : (b : Bytes) → ((k : ℕ) → Fits w8 (get_or b k 0))
+pub records_says : (b : Bytes) → ((k : ℕ) → Fits w8 (get_or b k 0))
     → Says (are_records b) ((length b % 16 ≡ 0) × ((1 ≤ length b / 16) × ((length b / 16 ≤ max_records) × (body_ok (length b / 16) 0 b 0 ≡ true))))
 unfolding records_ok
-records-says b h = retold (are-records-by b (octets b h)) (is_eq _ _ also is_le _ _ also is_le _ _ also itself _)
+records_says b h = retold (are_records_by b (octets b h)) (is_eq _ _ also is_le _ _ also is_le _ _ also itself _)

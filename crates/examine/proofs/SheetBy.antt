@@ -9,21 +9,21 @@ use lib.ListN.{length, get_or, drop, length-append, length-take, length-drop, dr
 use lib.Seq.{get_or-take, get_or-drop}
 use lib.Dec.{leb, eqb}
 use Rattle.words.specs.Words.{Bytes, le, word, part}
-use Rattle.words.specs.WordLaws.{le-length, word_fits, part_length}
+use Rattle.words.specs.WordLaws.{le_length, word_fits, part_length}
 use Rattle.rules.specs.Lists.{◌and◌, all, same, up_from}
 use Rattle.rules.specs.Forms.{well_formed}
 use Rattle.rules.specs.Sheet.{no_notice, masters, sets_of, sound_notice, bare, sound_sheet, contents_from, bodies, state_byte, head_bytes, sheet_bytes, sets_in, sheet_in, is_sheet}
 use Rattle.laws.specs.Tests.{left, right, both, same_tests}
 use Rattle.laws.specs.FormLaws.{→fits, same→}
-use Rattle.laws.specs.SheetLaws.{contents-length, sets-count}
+use Rattle.laws.specs.SheetLaws.{contents_length, sets_count}
 use Rattle.examine.specs.SheetForm.{set_count, none_noticed, state_ok, head_ok, notice_ok, sheet_ok}
-use Rattle.laws.specs.BytesHere.{Octets, and-true, part-here, byte-here, itself-here, word-here}
-use Rattle.examine.proofs.SetsBy.{total_in, firsts_in, set_zeros, ordered, csns-of, sets_of_lem, bodies-length, total-few, contents-here, bodies-here, sets-says}
+use Rattle.laws.specs.BytesHere.{Octets, and_true, part_here, byte_here, itself_here, word_here}
+use Rattle.examine.proofs.SetsBy.{total_in, firsts_in, set_zeros, ordered, csns_of, sets_of_lem, bodies_length, total_few, contents_here, bodies_here, sets_says}
 
 -- the state byte is written again if it is 0 or 1
-state-here : (s : ℕ) → eqb (state_byte (eqb s 1)) s ≡ leb s 1
+state_here : (s : ℕ) → eqb (state_byte (eqb s 1)) s ≡ leb s 1
 unfolding state_byte
-state-here s = go (eqb s 1) refl
+state_here s = go (eqb s 1) refl
   where
     go : (t : Bool) → eqb s 1 ≡ t → eqb (state_byte t) s ≡ leb s 1
     go true e = let h : s ≡ 1 = eqb-true s 1 e in rw h
@@ -33,9 +33,9 @@ state-here s = go (eqb s 1) refl
         (λ z. let q : 0 ≡ s = eqb-true 0 s z in le-leb s 1 (omega arith))
         (λ z. let q : s ≤ 1 = leb-true s 1 z in eq-eqb 0 s (omega arith))
 
-part-long : (b : Bytes) → length (part b 8 16) ≡ 16 → 24 ≤ length b
+part_long : (b : Bytes) → length (part b 8 16) ≡ 16 → 24 ≤ length b
 unfolding part
-part-long b e = omega (arith, simp (length-take, length-drop) at e)
+part_long b e = omega (arith, simp (length-take, length-drop) at e)
 
 -- inside a list it does not matter what stands outside
 inside : (l : List ℕ) (i d e : ℕ) → i < length l → get_or l i d ≡ get_or l i e
@@ -49,10 +49,10 @@ all_same f g k zero h = refl
 all_same f g k (suc n) h = rw (h k (omega arith), all_same f g (suc k) n (λ m l. h m (omega arith)))
 
 -- the notices of the sheet that the bytes are read as
-notices-by : (b : Bytes) → 24 ≤ length b
+notices_by : (b : Bytes) → 24 ≤ length b
     → all (λ m. sound_notice (word 2 b 4) m (get_or (part b 8 16) m no_notice) (sets_of m (sets_in (set_count b) b 24 (24 + 16 * set_count b)))) masters ≡ all (notice_ok b) masters
 unfolding notice_ok
-notices-by b h =
+notices_by b h =
     all_same _ (notice_ok b) 0 16
     (λ m l. rw (here m (omega arith), sets_of_lem m (set_count b) b 24 (24 + 16 * set_count b)))
   where
@@ -60,30 +60,30 @@ notices-by b h =
     here m l = unfold part in get_or-take 16 (drop 8 b) m no_notice l ∙ get_or-drop 8 b m no_notice ∙ inside b (8 + m) no_notice 0 (omega arith)
 
 module _ (b : Bytes) (o : Octets b) where
-  head-here : (rest : Bytes) → 24 ≤ length b → same (head_bytes (sheet_in b) ++ rest) b ≡ leb (get_or b 6 0) 1 and same rest (drop 24 b)
+  head_here : (rest : Bytes) → 24 ≤ length b → same (head_bytes (sheet_in b) ++ rest) b ≡ leb (get_or b 6 0) 1 and same rest (drop 24 b)
   unfolding head_bytes sheet_in
-  head-here rest h =
+  head_here rest h =
       let state = state_byte (eqb (get_or b 6 0) 1) in
       let l₈ = part b 8 16 ++ rest in
       let l₆ = state ∷ get_or b 7 0 ∷ l₈ in
       let l₄ = le 2 (word 2 b 4) ++ l₆ in
-      let apart : head_bytes (sheet_in b) ++ rest ≡ le 4 (word 4 b 0) ++ l₄ = simp (append_assoc, sets-count (get_or b 7 0) b 24 (24 + 16 * get_or b 7 0)) in
+      let apart : head_bytes (sheet_in b) ++ rest ≡ le 4 (word 4 b 0) ++ l₄ = simp (append_assoc, sets_count (get_or b 7 0) b 24 (24 + 16 * get_or b 7 0)) in
       rw (
         apart,
-        word-here b o 4 0 4 l₄ refl (omega arith),
-        word-here b o 2 4 6 l₆ refl (omega arith),
-        byte-here b state 6 7 (get_or b 7 0 ∷ l₈) refl (omega arith),
-        itself-here b 7 8 l₈ refl (omega arith),
-        part-here b 8 16 24 rest refl,
-        state-here (get_or b 6 0),
+        word_here b o 4 0 4 l₄ refl (omega arith),
+        word_here b o 2 4 6 l₆ refl (omega arith),
+        byte_here b state 6 7 (get_or b 7 0 ∷ l₈) refl (omega arith),
+        itself_here b 7 8 l₈ refl (omega arith),
+        part_here b 8 16 24 rest refl,
+        state_here (get_or b 6 0),
       )
 
   -- bytes of the right length are written again if the state, the first records and the zeros are right
-  sheet-written : length b ≡ 24 + 16 * set_count b + 16 * total_in (set_count b) b 24 → total_in (set_count b) b 24 < 256 ^ 2
+  sheet_written : length b ≡ 24 + 16 * set_count b + 16 * total_in (set_count b) b 24 → total_in (set_count b) b 24 < 256 ^ 2
       → same (sheet_bytes (sheet_in b)) b
       ≡ leb (get_or b 6 0) 1 and firsts_in 0 (set_count b) b 24 and set_zeros (set_count b) b 24 (24 + 16 * set_count b)
   unfolding sheet_bytes sheet_in same
-  sheet-written long few =
+  sheet_written long few =
       let n = set_count b in
       let k = 24 + 16 * n in
       let ws = sets_in n b 24 k in
@@ -92,26 +92,26 @@ module _ (b : Bytes) (o : Octets b) where
       let head = head_bytes (sheet_in b) in
       let apart : sheet_bytes (sheet_in b) ≡ head ++ (contents_from 0 ws ++ (bodies ws ++ [])) = append_assoc head (contents_from 0 ws) (bodies ws) ∙ ap (λ (l : Bytes). head ++ (contents_from 0 ws ++ l)) (sym (append-nil (bodies ws))) in
       ap (λ (l : Bytes). same l b) apart
-      ∙ head-here (contents_from 0 ws ++ (bodies ws ++ [])) (omega arith)
+      ∙ head_here (contents_from 0 ws ++ (bodies ws ++ [])) (omega arith)
       ∙ rw (
-        contents-here b o 0 n 24 k (bodies ws ++ []) (omega arith) (omega arith),
-        bodies-here b o n 24 k [] (omega arith),
+        contents_here b o 0 n 24 k (bodies ws ++ []) (omega arith) (omega arith),
+        bodies_here b o n 24 k [] (omega arith),
         none,
-        and-true,
+        and_true,
       )
 
-  sheet-length : 24 ≤ length b → length (sheet_bytes (sheet_in b)) ≡ 24 + 16 * set_count b + 16 * total_in (set_count b) b 24
+  sheet_length_lem : 24 ≤ length b → length (sheet_bytes (sheet_in b)) ≡ 24 + 16 * set_count b + 16 * total_in (set_count b) b 24
   unfolding sheet_bytes head_bytes sheet_in
-  sheet-length h =
+  sheet_length_lem h =
       let n = set_count b in
       let ws = sets_in n b 24 (24 + 16 * n) in
       simp length-append
-      (omega (arith, le-length 4 (word 4 b 0), le-length 2 (word 2 b 4), part_length b 8 16 h, contents-length 0 ws, sets-count n b 24 (24 + 16 * n), bodies-length n b 24 (24 + 16 * n)))
+      (omega (arith, le_length 4 (word 4 b 0), le_length 2 (word 2 b 4), part_length b 8 16 h, contents_length 0 ws, sets_count n b 24 (24 + 16 * n), bodies_length n b 24 (24 + 16 * n)))
 
   -- WHAT A PROGRAM TESTS OF A SHEET
-  pub is-sheet-by : is_sheet b ≡ sheet_ok b
+  pub is_sheet_by : is_sheet b ≡ sheet_ok b
   unfolding is_sheet well_formed sound_sheet sheet_ok head_ok state_ok none_noticed bare sheet_in ordered
-  is-sheet-by = same_tests (is_sheet b) (sheet_ok b) to from
+  is_sheet_by = same_tests (is_sheet b) (sheet_ok b) to from
     where
       n : ℕ
       n = set_count b
@@ -130,17 +130,17 @@ module _ (b : Bytes) (o : Octets b) where
           let s₈ = right _ _ s₇ in
           let sets = left _ _ s₈ in
           let few : length (sets_in n b 24 k) ≤ 64 = leb-true _ _ (left _ _ s₆) in
-          let head : 24 ≤ length b = part-long b (eqb-true _ _ (left _ _ s₄)) in
-          let long : length b ≡ 24 + 16 * n + 16 * total_in n b 24 = sym (ap length (same→ (sheet_bytes (sheet_in b)) b (right _ _ e))) ∙ sheet-length head in
-          let written = sym (sheet-written long (omega (arith, sets-count n b 24 k, total-few (word 4 b 0) (word 2 b 4) n b 24 k sets))) ∙ right _ _ e in
+          let head : 24 ≤ length b = part_long b (eqb-true _ _ (left _ _ s₄)) in
+          let long : length b ≡ 24 + 16 * n + 16 * total_in n b 24 = sym (ap length (same→ (sheet_bytes (sheet_in b)) b (right _ _ e))) ∙ sheet_length_lem head in
+          let written = sym (sheet_written long (omega (arith, sets_count n b 24 k, total_few (word 4 b 0) (word 2 b 4) n b 24 k sets))) ∙ right _ _ e in
           both (le-leb 24 (length b) head)
           (both
           (both (left _ _ s)
           (both (left _ _ s₂)
-          (both (both (left _ _ written) (rw (sets-count n b 24 k) at (right _ _ s₈))) (rw (sets-count n b 24 k) at (left _ _ s₆)))))
+          (both (both (left _ _ written) (rw (sets_count n b 24 k) at (right _ _ s₈))) (rw (sets_count n b 24 k) at (left _ _ s₆)))))
           (both (le-leb k (length b) (omega arith))
-          (both ((sets-says b o 0 0 n 24 k).test (sets, left _ _ (right _ _ written), right _ _ (right _ _ written), omega arith, rw (csns-of n b 24 k) at (left _ _ s₇)))
-          (sym (notices-by b head) ∙ left _ _ s₅))))
+          (both ((sets_says b o 0 0 n 24 k).test (sets, left _ _ (right _ _ written), right _ _ (right _ _ written), omega arith, rw (csns_of n b 24 k) at (left _ _ s₇)))
+          (sym (notices_by b head) ∙ left _ _ s₅))))
 
       from : sheet_ok b ≡ true → is_sheet b ≡ true
       from e =
@@ -151,17 +151,17 @@ module _ (b : Bytes) (o : Octets b) where
           let state = left _ _ h₂ in
           let few : n ≤ 64 = leb-true _ _ (right _ _ h₂) in
           let e₃ = right _ _ (right _ _ e₁) in
-          let sets = (sets-says b o 0 0 n 24 k).told (left _ _ e₃) in
+          let sets = (sets_says b o 0 0 n 24 k).told (left _ _ e₃) in
           let long = sets.3 in
-          let total = total-few (word 4 b 0) (word 2 b 4) n b 24 k sets.0 in
+          let total = total_few (word 4 b 0) (word 2 b 4) n b 24 k sets.0 in
           both
           (both (left _ _ h)
           (both (→fits 4 _ (word_fits 4 b 0 o))
           (both (left _ _ (right _ _ h))
           (both (→fits 2 _ (word_fits 2 b 4 o))
           (both (eq-eqb _ _ (part_length b 8 16 head))
-          (both (notices-by b head ∙ right _ _ e₃)
-          (both (rw (sets-count n b 24 k) (right _ _ h₂))
-          (both (rw (csns-of n b 24 k) sets.4)
-          (both sets.0 (rw (sets-count n b 24 k) (right _ _ state)))))))))))
-          (sheet-written (omega arith) (omega arith) ∙ both (left _ _ state) (both sets.1 sets.2))
+          (both (notices_by b head ∙ right _ _ e₃)
+          (both (rw (sets_count n b 24 k) (right _ _ h₂))
+          (both (rw (csns_of n b 24 k) sets.4)
+          (both sets.0 (rw (sets_count n b 24 k) (right _ _ state)))))))))))
+          (sheet_written (omega arith) (omega arith) ∙ both (left _ _ state) (both sets.1 sets.2))

@@ -6,10 +6,10 @@ use native.Mathlib.Omega.{arith}
 use Rattle.words.specs.Words.{Bytes}
 use Rattle.forms.specs.VerdictForm.{verdict_place, verdict_in, verdicts_in, verdict_at}
 
-pub verdict-place : (n : ℕ) (b : Bytes) (at i : ℕ) → i < n → verdict_at (verdicts_in n b at) i ≡ verdict_in b (at + verdict_place i)
+pub verdict_place_lem : (n : ℕ) (b : Bytes) (at i : ℕ) → i < n → verdict_at (verdicts_in n b at) i ≡ verdict_in b (at + verdict_place i)
 unfolding verdicts_in verdict_at
-verdict-place zero b at i h = absurd (omega arith)
-verdict-place (suc n) b at zero h = ap (verdict_in b) (sym (add-zero at))
-verdict-place (suc n) b at (suc i) h =
+verdict_place_lem zero b at i h = absurd (omega arith)
+verdict_place_lem (suc n) b at zero h = ap (verdict_in b) (sym (add-zero at))
+verdict_place_lem (suc n) b at (suc i) h =
     let e : at + 5 + 5 * i ≡ at + 5 * suc i = omega arith in
-    verdict-place n b (at + 5) i (omega arith) ∙ ap (verdict_in b) e
+    verdict_place_lem n b (at + 5) i (omega arith) ∙ ap (verdict_in b) e

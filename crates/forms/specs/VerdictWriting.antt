@@ -2,12 +2,12 @@
 use Rattle.std.specs.Prelude.{ℕ, ◌≤◌, ◌≡◌, List, [], ◌∷◌, ◌++◌, length}
 use Rattle.std.proofs.Common.{◌∙◌, arith}
 use Rattle.words.specs.Words.{Bytes, stored}
-use Rattle.words.specs.WordLaws.{nothing_stored, stored-front}
+use Rattle.words.specs.WordLaws.{nothing_stored, stored_front}
 use Rattle.rules.specs.declared.answer.Verdict.{Verdict}
 use Rattle.rules.specs.Lists.{flat}
 use Rattle.rules.specs.Refused.{verdict_bytes}
 use Rattle.rules.specs.Promises.{over}
-use Rattle.laws.specs.VerdictLength.{verdicts-length}
+use Rattle.laws.specs.VerdictLength.{verdicts_length_lem}
 use Rattle.forms.specs.VerdictForm.{verdicts_length}
 
 -- a buffer that held `before` has these verdicts at its start
@@ -19,12 +19,12 @@ pub record VerdictAdded (i : ℕ) (v : Verdict) (entry exit : Bytes) : Type 0 wh
   pub long : length exit ≡ length entry
   pub behind : (vs : List Verdict) (before : Bytes) → length vs ≡ i → VerdictsPut vs before entry → VerdictsPut (vs ++ v ∷ []) before exit
 
-pub none-put : {l : Bytes} → VerdictsPut [] l l
+pub none_put : {l : Bytes} → VerdictsPut [] l l
 unfolding flat
-none-put {l} = record { bytes = nothing_stored l 0 }
+none_put {l} = record { bytes = nothing_stored l 0 }
 
 -- they stand over what the buffer held
-pub verdicts-stand : (vs : List Verdict) {before after : Bytes} → verdicts_length (length vs) ≤ length before → VerdictsPut vs before after
+pub verdicts_stand : (vs : List Verdict) {before after : Bytes} → verdicts_length (length vs) ≤ length before → VerdictsPut vs before after
     → after ≡ over before (flat verdict_bytes vs)
 unfolding over
-verdicts-stand vs {before} room p = p.bytes ∙ stored-front before (flat verdict_bytes vs) (omega (arith, verdicts-length vs, room))
+verdicts_stand vs {before} room p = p.bytes ∙ stored_front before (flat verdict_bytes vs) (omega (arith, verdicts_length_lem vs, room))

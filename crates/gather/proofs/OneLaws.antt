@@ -20,35 +20,35 @@ use Rattle.rules.specs.Refused.{done, sheet_room, open_outcome}
 use Rattle.rules.specs.Promises.{Promise}
 use Rattle.laws.specs.Tests.{left, right}
 use Rattle.laws.specs.FormLaws.{same→}
-use Rattle.laws.specs.SheetLaws.{records-length}
-use Rattle.laws.specs.GatherLaws.{notice-at}
+use Rattle.laws.specs.SheetLaws.{records_length}
+use Rattle.laws.specs.GatherLaws.{notice_at_lem}
 use Rattle.laws.specs.Meets.{refuses, writes}
 use Rattle.sheets.specs.SheetReadings.{master_count, notices_place, head_length, contents_place, entry_place, bodies_place, record_length, record_place, sheet_length, one_room, start_bytes, entry_bytes, total}
-use Rattle.sheets.specs.SheetSizes.{sheet-length, empty-length}
-use Rattle.sheets.specs.SheetWritten.{sheet-stored, sheet-over}
+use Rattle.sheets.specs.SheetSizes.{sheet_length_lem, empty_length}
+use Rattle.sheets.specs.SheetWritten.{sheet_stored, sheet_over}
 use Rattle.gather.specs.OneSheet.{Small, of_set, of_notice}
 
 -- ---- opening
 
-empty-stored : (e r : ℕ) (l₀ : Bytes) {l₁ l₂ : Bytes} → l₁ ≡ stored l₀ 0 (start_bytes e r false 0) → l₂ ≡ stored l₁ notices_place no_notices → l₂ ≡ stored l₀ 0 (sheet_bytes (empty_sheet e r))
+empty_stored : (e r : ℕ) (l₀ : Bytes) {l₁ l₂ : Bytes} → l₁ ≡ stored l₀ 0 (start_bytes e r false 0) → l₂ ≡ stored l₁ notices_place no_notices → l₂ ≡ stored l₀ 0 (sheet_bytes (empty_sheet e r))
 unfolding empty_sheet sound_of contents_from bodies flat
-empty-stored e r l₀ {l₁} {l₂} p q = sheet-stored l₀ (empty_sheet e r) refl p q (nothing_stored l₂ contents_place) (nothing_stored l₂ (bodies_place 0))
+empty_stored e r l₀ {l₁} {l₂} p q = sheet_stored l₀ (empty_sheet e r) refl p q (nothing_stored l₂ contents_place) (nothing_stored l₂ (bodies_place 0))
 
 pub opened : (e r : ℕ) (l₀ : Bytes) {l₁ l₂ : Bytes} → (e ≡ 0 → ⊥) → (r ≡ 0 → ⊥) → sheet_room ≤ length l₀
     → l₁ ≡ stored l₀ 0 (start_bytes e r false 0) → l₂ ≡ stored l₁ notices_place no_notices → Promise (open_outcome e r (length l₀)) l₀ (Wrote head_length) l₂
 unfolding open_outcome
 opened e r l₀ {l₁} {l₂} h k m p q =
-    let n = empty-length e r in
+    let n = empty_length e r in
     let o : open_outcome e r (length l₀) ≡ done (sheet_bytes (empty_sheet e r)) = simp (ne_eqb e 0 h, ne_eqb r 0 k, le-ltb (length l₀) sheet_room m) in
-    writes _ (sheet_bytes (empty_sheet e r)) l₀ l₂ head_length o (sym n) (sheet-over l₀ (empty_sheet e r) (omega arith) (empty-stored e r l₀ p q))
+    writes _ (sheet_bytes (empty_sheet e r)) l₀ l₂ head_length o (sym n) (sheet_over l₀ (empty_sheet e r) (omega arith) (empty_stored e r l₀ p q))
 
-pub no-epoch : (e r : ℕ) (l : Bytes) → e ≡ 0 → Promise (open_outcome e r (length l)) l (Refused WrongEpoch) l
+pub no_epoch : (e r : ℕ) (l : Bytes) → e ≡ 0 → Promise (open_outcome e r (length l)) l (Refused WrongEpoch) l
 unfolding open_outcome
-no-epoch e r l h = refuses _ WrongEpoch l (simp (eq-eqb e 0 h))
+no_epoch e r l h = refuses _ WrongEpoch l (simp (eq-eqb e 0 h))
 
-pub no-roster : (e r : ℕ) (l : Bytes) → (e ≡ 0 → ⊥) → r ≡ 0 → Promise (open_outcome e r (length l)) l (Refused WrongRoster) l
+pub no_roster : (e r : ℕ) (l : Bytes) → (e ≡ 0 → ⊥) → r ≡ 0 → Promise (open_outcome e r (length l)) l (Refused WrongRoster) l
 unfolding open_outcome
-no-roster e r l h k = refuses _ WrongRoster l (simp (ne_eqb e 0 h, eq-eqb r 0 k))
+no_roster e r l h k = refuses _ WrongRoster l (simp (ne_eqb e 0 h, eq-eqb r 0 k))
 
 pub no_room : (e r : ℕ) (l : Bytes) → (e ≡ 0 → ⊥) → (r ≡ 0 → ⊥) → length l < sheet_room → Promise (open_outcome e r (length l)) l (Refused BufferShort) l
 unfolding open_outcome
@@ -67,84 +67,84 @@ unfolding are_records well_formed sound_records
 offered b e =
     let rs = offered_records b in
     let x : records_bytes rs ≡ b = same→ _ _ (right _ _ e) in
-    record { exact = x; whole = sym (ap length x) ∙ records-length rs; few = leb-true (length rs) max_records (left _ _ (right _ _ (left _ _ e))) }
+    record { exact = x; whole = sym (ap length x) ∙ records_length rs; few = leb-true (length rs) max_records (left _ _ (right _ _ (left _ _ e))) }
 
 -- the sheet of one set, part by part
-set-sheet : (e r : ℕ) (w : WriteSet) → holding e r (a_set w ∷ []) ≡ sound_of e r no_notices (w ∷ [])
+set_sheet : (e r : ℕ) (w : WriteSet) → holding e r (a_set w ∷ []) ≡ sound_of e r no_notices (w ∷ [])
 unfolding holding sets_among notices_among flat set_in notice_in distinct put_set notice_of up_from
-set-sheet e r w = refl
+set_sheet e r w = refl
 
-set-length : (e r : ℕ) (w : WriteSet) → length (sheet_bytes (sound_of e r no_notices (w ∷ []))) ≡ sheet_length 1 (length w.records)
+set_length : (e r : ℕ) (w : WriteSet) → length (sheet_bytes (sound_of e r no_notices (w ∷ []))) ≡ sheet_length 1 (length w.records)
 unfolding sound_of total
-set-length e r w = sheet-length (sound_of e r no_notices (w ∷ [])) refl ∙ omega arith
+set_length e r w = sheet_length_lem (sound_of e r no_notices (w ∷ [])) refl ∙ omega arith
 
-set-stored : (e r : ℕ) (w : WriteSet) (b l₀ : Bytes) {l₁ l₂ l₃ l₄ : Bytes} → records_bytes w.records ≡ b → l₁ ≡ stored l₀ 0 (start_bytes e r false 1) → l₂ ≡ stored l₁ notices_place no_notices
+set_stored : (e r : ℕ) (w : WriteSet) (b l₀ : Bytes) {l₁ l₂ l₃ l₄ : Bytes} → records_bytes w.records ≡ b → l₁ ≡ stored l₀ 0 (start_bytes e r false 1) → l₂ ≡ stored l₁ notices_place no_notices
     → l₃ ≡ stored l₂ (entry_place 0) (entry_bytes w.csn w.sen 0 (length w.records)) → l₄ ≡ stored l₃ (record_place 1 0) b → l₄ ≡ stored l₀ 0 (sheet_bytes (sound_of e r no_notices (w ∷ [])))
 unfolding sound_of contents_from bodies flat entry_bytes
-set-stored e r w b l₀ {l₁} {l₂} {l₃} {l₄} x p q s t =
-    sheet-stored l₀ (sound_of e r no_notices (w ∷ [])) refl p q
+set_stored e r w b l₀ {l₁} {l₂} {l₃} {l₄} x p q s t =
+    sheet_stored l₀ (sound_of e r no_notices (w ∷ [])) refl p q
     (s ∙ ap (stored l₂ contents_place) (sym (append-nil _)))
     (t ∙ ap (stored l₃ (bodies_place 1)) (sym x ∙ sym (append-nil _)))
 
-pub set-held : (e r sen csn n : ℕ) (b l₀ : Bytes) {l₁ l₂ l₃ l₄ : Bytes} → length l₀ ≡ one_room → Offered b → n ≡ length (offered_records b) → l₁ ≡ stored l₀ 0 (start_bytes e r false 1) → l₂ ≡ stored l₁ notices_place no_notices
+pub set_held : (e r sen csn n : ℕ) (b l₀ : Bytes) {l₁ l₂ l₃ l₄ : Bytes} → length l₀ ≡ one_room → Offered b → n ≡ length (offered_records b) → l₁ ≡ stored l₀ 0 (start_bytes e r false 1) → l₂ ≡ stored l₁ notices_place no_notices
     → l₃ ≡ stored l₂ (entry_place 0) (entry_bytes csn sen 0 n) → l₄ ≡ stored l₃ (record_place 1 0) b → Small (of_set e r sen csn b) l₀ (sheet_length 1 n) l₄
 unfolding of_set
-set-held e r sen csn n b l₀ {l₁} {l₂} {l₃} {l₄} room f h p q s t =
+set_held e r sen csn n b l₀ {l₁} {l₂} {l₃} {l₄} room f h p q s t =
     let w : WriteSet = record { csn = csn; sen = sen; records = offered_records b } in
-    let one = set-sheet e r w in
+    let one = set_sheet e r w in
     record {
-      bytes = set-stored e r w b l₀ f.exact p q (s ∙ ap (λ (k : ℕ). stored l₂ (entry_place 0) (entry_bytes csn sen 0 k)) h) t ∙ ap (λ (x : Sheet). stored l₀ 0 (sheet_bytes x)) (sym one);
-      long = omega (arith, h, set-length e r w) ∙ ap (λ (x : Sheet). length (sheet_bytes x)) (sym one);
+      bytes = set_stored e r w b l₀ f.exact p q (s ∙ ap (λ (k : ℕ). stored l₂ (entry_place 0) (entry_bytes csn sen 0 k)) h) t ∙ ap (λ (x : Sheet). stored l₀ 0 (sheet_bytes x)) (sym one);
+      long = omega (arith, h, set_length e r w) ∙ ap (λ (x : Sheet). length (sheet_bytes x)) (sym one);
       fits = omega (arith, h, f.few);
     }
 
 -- ---- one notice
 
 -- master k's notice where master m alone noticed n
-abbrev noticed-by : (m n k : ℕ) → ℕ
-noticed-by m n k = notice_of k (record { master = m; number = n } ∷ [])
+abbrev noticed_by : (m n k : ℕ) → ℕ
+noticed_by m n k = notice_of k (record { master = m; number = n } ∷ [])
 
-by_itself : (m n : ℕ) → n ≤ max_sets → noticed-by m n m ≡ n
+by_itself : (m n : ℕ) → n ≤ max_sets → noticed_by m n m ≡ n
 unfolding notice_of
 by_itself m n h = simp (eq-eqb m m refl) (omega arith)
 
-by-another : (m n k : ℕ) → (m ≡ k → ⊥) → noticed-by m n k ≡ no_notice
+by_another : (m n k : ℕ) → (m ≡ k → ⊥) → noticed_by m n k ≡ no_notice
 unfolding notice_of
-by-another m n k h = simp (ne_eqb m k h)
+by_another m n k h = simp (ne_eqb m k h)
 
-notices-of : (m n : ℕ) → m < master_count → n ≤ max_sets → set no_notices m n ≡ map (noticed-by m n) masters
-notices-of m n h k =
+notices_of : (m n : ℕ) → m < master_count → n ≤ max_sets → set no_notices m n ≡ map (noticed_by m n) masters
+notices_of m n h k =
     let long = length-set no_notices m n in
-    ext_get_or no_notice (set no_notices m n) (map (noticed-by m n) masters) (long ∙ sixteen)
-    (λ i l. at i (omega (arith, long, l)) ∙ sym (notice-at (record { master = m; number = n } ∷ []) i (omega (arith, long, l))))
+    ext_get_or no_notice (set no_notices m n) (map (noticed_by m n) masters) (long ∙ sixteen)
+    (λ i l. at i (omega (arith, long, l)) ∙ sym (notice_at_lem (record { master = m; number = n } ∷ []) i (omega (arith, long, l))))
   where
-    sixteen : master_count ≡ length (map (noticed-by m n) masters)
+    sixteen : master_count ≡ length (map (noticed_by m n) masters)
     sixteen = unfold up_from in refl
 
-    at : (i : ℕ) → i < master_count → get_or (set no_notices m n) i no_notice ≡ noticed-by m n i
+    at : (i : ℕ) → i < master_count → get_or (set no_notices m n) i no_notice ≡ noticed_by m n i
     at i l =
         elim (ℕ_discrete m i) [
           | yes e ↦ rw (← e) (get_or-set_same no_notices m n no_notice h ∙ sym (by_itself m n k))
-          | no d ↦ get_or-set_other no_notices m i n no_notice (λ e. d (sym e)) ∙ get_or-replicate master_count i no_notice no_notice l ∙ sym (by-another m n i d)
+          | no d ↦ get_or-set_other no_notices m i n no_notice (λ e. d (sym e)) ∙ get_or-replicate master_count i no_notice no_notice l ∙ sym (by_another m n i d)
         ]
 
-notice-sheet : (e r m n : ℕ) → holding e r (a_notice (record { master = m; number = n }) ∷ []) ≡ sound_of e r (map (noticed-by m n) masters) []
+notice_sheet : (e r m n : ℕ) → holding e r (a_notice (record { master = m; number = n }) ∷ []) ≡ sound_of e r (map (noticed_by m n) masters) []
 unfolding holding sets_among notices_among flat set_in notice_in distinct
-notice-sheet e r m n = refl
+notice_sheet e r m n = refl
 
-notice-stored : (e r : ℕ) (ns l₀ : Bytes) {l₁ l₂ : Bytes} → length ns ≡ master_count → l₁ ≡ stored l₀ 0 (start_bytes e r false 0) → l₂ ≡ stored l₁ notices_place ns
+notice_stored : (e r : ℕ) (ns l₀ : Bytes) {l₁ l₂ : Bytes} → length ns ≡ master_count → l₁ ≡ stored l₀ 0 (start_bytes e r false 0) → l₂ ≡ stored l₁ notices_place ns
     → (l₂ ≡ stored l₀ 0 (sheet_bytes (sound_of e r ns []))) × (head_length ≡ length (sheet_bytes (sound_of e r ns [])))
 unfolding sound_of contents_from bodies flat total
-notice-stored e r ns l₀ {l₁} {l₂} h p q =
-    (sheet-stored l₀ (sound_of e r ns []) h p q (nothing_stored l₂ contents_place) (nothing_stored l₂ (bodies_place 0)), sym (sheet-length (sound_of e r ns []) h))
+notice_stored e r ns l₀ {l₁} {l₂} h p q =
+    (sheet_stored l₀ (sound_of e r ns []) h p q (nothing_stored l₂ contents_place) (nothing_stored l₂ (bodies_place 0)), sym (sheet_length_lem (sound_of e r ns []) h))
 
-pub notice-held : (e r m n : ℕ) (l₀ : Bytes) {l₁ l₂ : Bytes} → length l₀ ≡ one_room → m < master_count → n ≤ max_sets → l₁ ≡ stored l₀ 0 (start_bytes e r false 0) → l₂ ≡ stored l₁ notices_place (set no_notices m n)
+pub notice_held : (e r m n : ℕ) (l₀ : Bytes) {l₁ l₂ : Bytes} → length l₀ ≡ one_room → m < master_count → n ≤ max_sets → l₁ ≡ stored l₀ 0 (start_bytes e r false 0) → l₂ ≡ stored l₁ notices_place (set no_notices m n)
     → Small (of_notice e r m n) l₀ head_length l₂
 unfolding of_notice
-notice-held e r m n l₀ {l₁} {l₂} room h k p q =
+notice_held e r m n l₀ {l₁} {l₂} room h k p q =
     let one : sound_of e r (set no_notices m n) [] ≡ holding e r (a_notice (record { master = m; number = n }) ∷ []) =
-    ap (λ (ns : List ℕ). sound_of e r ns []) (notices-of m n h k) ∙ sym (notice-sheet e r m n) in
-    let x = notice-stored e r (set no_notices m n) l₀ (length-set no_notices m n) p q in
+    ap (λ (ns : List ℕ). sound_of e r ns []) (notices_of m n h k) ∙ sym (notice_sheet e r m n) in
+    let x = notice_stored e r (set no_notices m n) l₀ (length-set no_notices m n) p q in
     record {
       bytes = x.0 ∙ ap (λ (s : Sheet). stored l₀ 0 (sheet_bytes s)) one;
       long = x.1 ∙ ap (λ (s : Sheet). length (sheet_bytes s)) one;

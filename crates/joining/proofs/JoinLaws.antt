@@ -12,7 +12,7 @@ use Rattle.rules.specs.Sheet.{Sheet, sheet_bytes, sheet_in, is_sheet, read_sheet
 use Rattle.rules.specs.Gathering.{joined}
 use Rattle.rules.specs.Refused.{sheet_room, join_sheets, join_outcome}
 use Rattle.rules.specs.Promises.{Promise}
-use Rattle.laws.specs.SheetLaws.{sheet-read, sheet-unread}
+use Rattle.laws.specs.SheetLaws.{sheet_read, sheet_unread}
 use Rattle.laws.specs.Meets.{refuses, writes}
 use Rattle.walk.specs.declared.spoil.Joint.{Joint}
 use Rattle.walk.specs.Walk.{JoinsTo}
@@ -25,8 +25,8 @@ abbrev pub Joined : Bytes → Bytes → Bytes → ℕ → Bytes → Type 0
 Joined a b before n after = Written (joined (sheet_in a) (sheet_in b)) before n after
 
 -- what is written of the sheet that two are joined to is what joining writes
-pub same-sheet : (a b : Bytes) {s : Sheet} {l₀ l : Bytes} {n : ℕ} → joined (sheet_in a) (sheet_in b) ≡ s → Written s l₀ n l → Joined a b l₀ n l
-same-sheet a b e w = rw e w
+pub same_sheet : (a b : Bytes) {s : Sheet} {l₀ l : Bytes} {n : ℕ} → joined (sheet_in a) (sheet_in b) ≡ s → Written s l₀ n l → Joined a b l₀ n l
+same_sheet a b e w = rw e w
 
 -- what is told of the answer is told of the case that it is
 pub told : (a b : Sheet) {r s : Joint} → r ≡ s → JoinsTo a b r → JoinsTo a b s
@@ -34,29 +34,29 @@ told a b e k = rw (← e) k
 
 -- ---- the refusals
 
-pub first-ill : (a b l : Bytes) → is_sheet a ≡ false → Promise (join_outcome a b (length l)) l (Refused SheetIllFormed) l
+pub first_ill : (a b l : Bytes) → is_sheet a ≡ false → Promise (join_outcome a b (length l)) l (Refused SheetIllFormed) l
 unfolding join_outcome join_sheets
-first-ill a b l e = refuses _ SheetIllFormed l (ap (λ (x : Option Sheet). join_sheets x (read_sheet b) (length l)) (sheet-unread a e))
+first_ill a b l e = refuses _ SheetIllFormed l (ap (λ (x : Option Sheet). join_sheets x (read_sheet b) (length l)) (sheet_unread a e))
 
 module _ (a b l : Bytes) (p : is_sheet a ≡ true) where
-  pub second-ill : is_sheet b ≡ false → Promise (join_outcome a b (length l)) l (Refused SheetIllFormed) l
+  pub second_ill : is_sheet b ≡ false → Promise (join_outcome a b (length l)) l (Refused SheetIllFormed) l
   unfolding join_outcome join_sheets
-  second-ill e =
-      refuses _ SheetIllFormed l (ap₂ (λ (x y : Option Sheet). join_sheets x y (length l)) (sheet-read a p) (sheet-unread b e))
+  second_ill e =
+      refuses _ SheetIllFormed l (ap₂ (λ (x y : Option Sheet). join_sheets x y (length l)) (sheet_read a p) (sheet_unread b e))
 
   module _ (q : is_sheet b ≡ true) where
     both_read : join_outcome a b (length l) ≡ join_sheets (some (sheet_in a)) (some (sheet_in b)) (length l)
     unfolding join_outcome
-    both_read = ap₂ (λ (x y : Option Sheet). join_sheets x y (length l)) (sheet-read a p) (sheet-read b q)
+    both_read = ap₂ (λ (x y : Option Sheet). join_sheets x y (length l)) (sheet_read a p) (sheet_read b q)
 
-    pub other-epoch : ((sheet_in a).epoch ≡ (sheet_in b).epoch → ⊥) → Promise (join_outcome a b (length l)) l (Refused WrongEpoch) l
+    pub other_epoch : ((sheet_in a).epoch ≡ (sheet_in b).epoch → ⊥) → Promise (join_outcome a b (length l)) l (Refused WrongEpoch) l
     unfolding join_sheets
-    other-epoch h = refuses _ WrongEpoch l (both_read ∙ rw (ne_eqb (sheet_in a).epoch (sheet_in b).epoch h))
+    other_epoch h = refuses _ WrongEpoch l (both_read ∙ rw (ne_eqb (sheet_in a).epoch (sheet_in b).epoch h))
 
     module _ (e : (sheet_in a).epoch ≡ (sheet_in b).epoch) where
-      pub other-roster : ((sheet_in a).roster ≡ (sheet_in b).roster → ⊥) → Promise (join_outcome a b (length l)) l (Refused WrongRoster) l
+      pub other_roster : ((sheet_in a).roster ≡ (sheet_in b).roster → ⊥) → Promise (join_outcome a b (length l)) l (Refused WrongRoster) l
       unfolding join_sheets
-      other-roster h = refuses _ WrongRoster l (both_read ∙ rw (eq-eqb (sheet_in a).epoch (sheet_in b).epoch e, ne_eqb (sheet_in a).roster (sheet_in b).roster h))
+      other_roster h = refuses _ WrongRoster l (both_read ∙ rw (eq-eqb (sheet_in a).epoch (sheet_in b).epoch e, ne_eqb (sheet_in a).roster (sheet_in b).roster h))
 
       module _ (r : (sheet_in a).roster ≡ (sheet_in b).roster) where
         pub too_short : length l < sheet_room → Promise (join_outcome a b (length l)) l (Refused BufferShort) l

@@ -16,10 +16,10 @@ use Rattle.rules.specs.Lists.{if◌then◌else◌, keep, first, flat, count, up_
 use Rattle.rules.specs.Sheet.{WriteSet, Sheet}
 use Rattle.rules.specs.Closing.{names, mark_in}
 use Rattle.rules.specs.Becoming.{applied, applied_to, committed_on}
-use Rattle.laws.specs.Tests.{not-true-false}
+use Rattle.laws.specs.Tests.{not_true_false}
 use Rattle.laws.specs.Says.{clash}
-use Rattle.laws.specs.ListLaws.{any→, →any, first→, first-none}
-use Rattle.laws.specs.Places.{count_yes, count_no, count_none, count-all}
+use Rattle.laws.specs.ListLaws.{any→, →any, first→, first_none}
+use Rattle.laws.specs.Places.{count_yes, count_no, count_none, count_all}
 use Rattle.sheets.specs.SheetReadings.{set_at, record_at, no_record}
 use Rattle.judging.specs.declared.effect.Effect.TheVariants.{Write, Nothing}
 use Rattle.judging.specs.declared.recorded.Recorded.{Recorded}
@@ -45,13 +45,13 @@ module _ (s : Sheet) (lost : List ℕ) where
     rest : length s.sets - i ≡ suc (length s.sets - (i + 1))
     rest = omega arith
 
-    from-commit : none_at lost i ≡ true → committed_from s lost i ≡ set_at s i ∷ committed_from s lost (i + 1)
+    from_commit : none_at lost i ≡ true → committed_from s lost i ≡ set_at s i ∷ committed_from s lost (i + 1)
     unfolding committed_from keep up_from
-    from-commit e = rw (rest, e, add-one i)
+    from_commit e = rw (rest, e, add-one i)
 
-    from-other : none_at lost i ≡ false → committed_from s lost i ≡ committed_from s lost (i + 1)
+    from_other : none_at lost i ≡ false → committed_from s lost i ≡ committed_from s lost (i + 1)
     unfolding committed_from keep up_from
-    from-other e = rw (rest, e, add-one i)
+    from_other e = rw (rest, e, add-one i)
 
 -- ---- what is applied to a key
 
@@ -60,28 +60,28 @@ record_of : Recorded → Option Record
 record_of (As r) = some r
 record_of Nowhere = none
 
-recorded-back : (o : Option Record) → record_of (recorded o) ≡ o
+recorded_back : (o : Option Record) → record_of (recorded o) ≡ o
 unfolding recorded record_of
-recorded-back none = refl
-recorded-back (some r) = refl
+recorded_back none = refl
+recorded_back (some r) = refl
 
-pub as-record : {a : Recorded} {o : Option Record} {r : Record} → a ≡ recorded o → a ≡ As r → o ≡ some r
+pub as_record : {a : Recorded} {o : Option Record} {r : Record} → a ≡ recorded o → a ≡ As r → o ≡ some r
 unfolding record_of
-as-record {o = o} p q = sym (recorded-back o) ∙ ap record_of (sym p ∙ q)
+as_record {o = o} p q = sym (recorded_back o) ∙ ap record_of (sym p ∙ q)
 
 pub no_record_lem : {a : Recorded} {o : Option Record} → a ≡ recorded o → a ≡ Nowhere → o ≡ none
 unfolding record_of
-no_record_lem {o = o} p q = sym (recorded-back o) ∙ ap record_of (sym p ∙ q)
+no_record_lem {o = o} p q = sym (recorded_back o) ∙ ap record_of (sym p ∙ q)
 
 -- the first of two, or the second where there is no first
 abbrev or_else : {A : Type 0} → Option A → Option A → Option A
 or_else (some x) b = some x
 or_else none b = b
 
-first-append : {A : Type 0} (p : A → Bool) (xs ys : List A) → first p (xs ++ ys) ≡ or_else (first p xs) (first p ys)
+first_append : {A : Type 0} (p : A → Bool) (xs ys : List A) → first p (xs ++ ys) ≡ or_else (first p xs) (first p ys)
 unfolding first
-first-append p [] ys = refl
-first-append p (x ∷ xs) ys = go (p x) (first-append p xs ys)
+first_append p [] ys = refl
+first_append p (x ∷ xs) ys = go (p x) (first_append p xs ys)
   where
     go : (t : Bool) → first p (xs ++ ys) ≡ or_else (first p xs) (first p ys)
         → (if t then some x else first p (xs ++ ys)) ≡ or_else (if t then some x else first p xs) (first p ys)
@@ -90,56 +90,56 @@ first-append p (x ∷ xs) ys = go (p x) (first-append p xs ys)
 
 -- a set names the key just when it has a record for it
 module _ (w : WriteSet) (key : ℕ) where
-  names-found : {r : Record} → applied_to w.records key ≡ some r → names w key ≡ true
+  names_found : {r : Record} → applied_to w.records key ≡ some r → names w key ≡ true
   unfolding applied_to names
-  names-found e = let f = first→ (λ r. eqb r.key key) w.records e in →any (λ r. eqb r.key key) f.0 f.1
+  names_found e = let f = first→ (λ r. eqb r.key key) w.records e in →any (λ r. eqb r.key key) f.0 f.1
 
-  names-none : applied_to w.records key ≡ none → names w key ≡ false
+  names_none : applied_to w.records key ≡ none → names w key ≡ false
   unfolding applied_to names
-  names-none e =
-      not-true-false (λ n. let a = any→ (λ r. eqb r.key key) w.records n in clash a.2 (first-none (λ r. eqb r.key key) w.records e a.0 a.1))
+  names_none e =
+      not_true_false (λ n. let a = any→ (λ r. eqb r.key key) w.records n in clash a.2 (first_none (λ r. eqb r.key key) w.records e a.0 a.1))
 
 module _ (s : Sheet) (lost : List ℕ) (key : ℕ) where
   -- no set before set i that commits names the key
   pub record Sought (i : ℕ) : Type 0 where
-    pub record-there : applied_to (applied (committed_from s lost i)) key ≡ applied_to (applied (committed_in s lost)) key
+    pub record_there : applied_to (applied (committed_from s lost i)) key ≡ applied_to (applied (committed_in s lost)) key
     pub set_there : committed_on (committed_from s lost i) key ≡ committed_on (committed_in s lost) key
 
-  pub sought-start : Sought 0
-  sought-start =
+  pub sought_start : Sought 0
+  sought_start =
       let e = from_start s lost in
-      record { record-there = ap (λ (c : List WriteSet). applied_to (applied c) key) e; set_there = ap (λ (c : List WriteSet). committed_on c key) e }
+      record { record_there = ap (λ (c : List WriteSet). applied_to (applied c) key) e; set_there = ap (λ (c : List WriteSet). committed_on c key) e }
 
-  pub sought-end : (i : ℕ) → length s.sets ≤ i → Sought i → AppliesTo s (committed_in s lost) key Nothing
+  pub sought_end : (i : ℕ) → length s.sets ≤ i → Sought i → AppliesTo s (committed_in s lost) key Nothing
   unfolding applied flat applied_to first committed_on
-  sought-end i h f =
+  sought_end i h f =
       let e = from_end s lost i h in
-      (sym f.record-there ∙ ap (λ (c : List WriteSet). applied_to (applied c) key) e, sym f.set_there ∙ ap (λ (c : List WriteSet). committed_on c key) e)
+      (sym f.record_there ∙ ap (λ (c : List WriteSet). applied_to (applied c) key) e, sym f.set_there ∙ ap (λ (c : List WriteSet). committed_on c key) e)
 
   module _ (i : ℕ) (h : i < length s.sets) (f : Sought i) where
-    pub sought-found : none_at lost i ≡ true → {r : Record} {m : Mark} → applied_to (set_at s i).records key ≡ some r → m ≡ mark_in s (set_at s i)
+    pub sought_found : none_at lost i ≡ true → {r : Record} {m : Mark} → applied_to (set_at s i).records key ≡ some r → m ≡ mark_in s (set_at s i)
         → AppliesTo s (committed_in s lost) key (Write r m)
     unfolding applied flat applied_to committed_on first
-    sought-found z e m =
-        let c = from-commit s lost i h z in (
-          sym f.record-there ∙ ap (λ (c : List WriteSet). applied_to (applied c) key) c ∙ first-append (λ r. eqb r.key key) (set_at s i).records (applied (committed_from s lost (i + 1))) ∙ rw e,
-          (set_at s i, sym f.set_there ∙ ap (λ (c : List WriteSet). committed_on c key) c ∙ rw (names-found (set_at s i) key e), m),
+    sought_found z e m =
+        let c = from_commit s lost i h z in (
+          sym f.record_there ∙ ap (λ (c : List WriteSet). applied_to (applied c) key) c ∙ first_append (λ r. eqb r.key key) (set_at s i).records (applied (committed_from s lost (i + 1))) ∙ rw e,
+          (set_at s i, sym f.set_there ∙ ap (λ (c : List WriteSet). committed_on c key) c ∙ rw (names_found (set_at s i) key e), m),
         )
 
-    pub sought-later : none_at lost i ≡ true → applied_to (set_at s i).records key ≡ none → Sought (i + 1)
+    pub sought_later : none_at lost i ≡ true → applied_to (set_at s i).records key ≡ none → Sought (i + 1)
     unfolding applied flat applied_to committed_on first
-    sought-later z e =
-        let c = from-commit s lost i h z in
+    sought_later z e =
+        let c = from_commit s lost i h z in
         record {
-          record-there = sym (ap (λ (c : List WriteSet). applied_to (applied c) key) c ∙ first-append (λ r. eqb r.key key) (set_at s i).records (applied (committed_from s lost (i + 1))) ∙ rw e) ∙ f.record-there;
-          set_there = sym (ap (λ (c : List WriteSet). committed_on c key) c ∙ rw (names-none (set_at s i) key e)) ∙ f.set_there;
+          record_there = sym (ap (λ (c : List WriteSet). applied_to (applied c) key) c ∙ first_append (λ r. eqb r.key key) (set_at s i).records (applied (committed_from s lost (i + 1))) ∙ rw e) ∙ f.record_there;
+          set_there = sym (ap (λ (c : List WriteSet). committed_on c key) c ∙ rw (names_none (set_at s i) key e)) ∙ f.set_there;
         }
 
-    pub sought-other : none_at lost i ≡ false → Sought (i + 1)
-    sought-other z =
-        let c = from-other s lost i h z in
+    pub sought_other : none_at lost i ≡ false → Sought (i + 1)
+    sought_other z =
+        let c = from_other s lost i h z in
         record {
-          record-there = sym (ap (λ (c : List WriteSet). applied_to (applied c) key) c) ∙ f.record-there;
+          record_there = sym (ap (λ (c : List WriteSet). applied_to (applied c) key) c) ∙ f.record_there;
           set_there = sym (ap (λ (c : List WriteSet). committed_on c key) c) ∙ f.set_there;
         }
 
@@ -156,9 +156,9 @@ module _ {A : Type 0} (p : A → Bool) where
       go true e = ap (λ (l : List A). x ∷ l) e
       go false e = e
 
-kind-append : (k : ℕ) (xs ys : List Record) → of_kind k (xs ++ ys) ≡ of_kind k xs + of_kind k ys
+kind_append : (k : ℕ) (xs ys : List Record) → of_kind k (xs ++ ys) ≡ of_kind k xs + of_kind k ys
 unfolding of_kind count
-kind-append k xs ys = ap length (keep_append (λ r. eqb r.kind k) xs ys) ∙ length-append (keep (λ r. eqb r.kind k) xs) (keep (λ r. eqb r.kind k) ys)
+kind_append k xs ys = ap length (keep_append (λ r. eqb r.kind k) xs ys) ∙ length-append (keep (λ r. eqb r.kind k) xs) (keep (λ r. eqb r.kind k) ys)
 
 module _ (s : Sheet) (lost : List ℕ) (k : ℕ) where
   -- how many records of the kind these sets apply
@@ -173,34 +173,34 @@ module _ (s : Sheet) (lost : List ℕ) (k : ℕ) where
   unfolding kinds
   counted_none = let e = ap kinds (from_start s lost) in omega arith
 
-  pub counted-all : (i n : ℕ) → length s.sets ≤ i → Counted i n → n ≡ of_kind k (applied (committed_in s lost))
+  pub counted_all : (i n : ℕ) → length s.sets ≤ i → Counted i n → n ≡ of_kind k (applied (committed_in s lost))
   unfolding kinds of_kind count keep applied flat
-  counted-all i n h f = let e : kinds (committed_from s lost i) ≡ 0 = ap kinds (from_end s lost i h) in omega arith
+  counted_all i n h f = let e : kinds (committed_from s lost i) ≡ 0 = ap kinds (from_end s lost i h) in omega arith
 
   module _ (i n : ℕ) (h : i < length s.sets) (f : Counted i n) where
-    pub counted-more : none_at lost i ≡ true → Counted (i + 1) (n + of_kind k (set_at s i).records)
+    pub counted_more : none_at lost i ≡ true → Counted (i + 1) (n + of_kind k (set_at s i).records)
     unfolding kinds applied flat
-    counted-more z =
-        let e = ap kinds (from-commit s lost i h z) ∙ kind-append k (set_at s i).records (applied (committed_from s lost (i + 1))) in
+    counted_more z =
+        let e = ap kinds (from_commit s lost i h z) ∙ kind_append k (set_at s i).records (applied (committed_from s lost (i + 1))) in
         omega arith
 
     pub counted_same : none_at lost i ≡ false → Counted (i + 1) n
     unfolding kinds
-    counted_same z = let e = ap kinds (from-other s lost i h z) in omega arith
+    counted_same z = let e = ap kinds (from_other s lost i h z) in omega arith
 
 module _ (k : ℕ) (w : WriteSet) where
-  pub kind-none : 0 ≡ of_kind k (take 0 w.records)
+  pub kind_none : 0 ≡ of_kind k (take 0 w.records)
   unfolding of_kind
-  kind-none = sym (count_none _ no_record w.records)
+  kind_none = sym (count_none _ no_record w.records)
 
-  pub kind-yes : (j : ℕ) → j < length w.records → (record_at w j).kind ≡ k → of_kind k (take (j + 1) w.records) ≡ of_kind k (take j w.records) + 1
+  pub kind_yes : (j : ℕ) → j < length w.records → (record_at w j).kind ≡ k → of_kind k (take (j + 1) w.records) ≡ of_kind k (take j w.records) + 1
   unfolding of_kind record_at
-  kind-yes j h e = count_yes _ no_record w.records j h (eq-eqb _ _ e)
+  kind_yes j h e = count_yes _ no_record w.records j h (eq-eqb _ _ e)
 
-  pub kind-no : (j : ℕ) → j < length w.records → ((record_at w j).kind ≡ k → ⊥) → of_kind k (take (j + 1) w.records) ≡ of_kind k (take j w.records)
+  pub kind_no : (j : ℕ) → j < length w.records → ((record_at w j).kind ≡ k → ⊥) → of_kind k (take (j + 1) w.records) ≡ of_kind k (take j w.records)
   unfolding of_kind record_at
-  kind-no j h e = count_no _ no_record w.records j h (ne_eqb _ _ e)
+  kind_no j h e = count_no _ no_record w.records j h (ne_eqb _ _ e)
 
-  pub kind-all : (j : ℕ) → length w.records ≤ j → of_kind k (take j w.records) ≡ of_kind k w.records
+  pub kind_all : (j : ℕ) → length w.records ≤ j → of_kind k (take j w.records) ≡ of_kind k w.records
   unfolding of_kind
-  kind-all j h = count-all _ no_record w.records j h
+  kind_all j h = count_all _ no_record w.records j h

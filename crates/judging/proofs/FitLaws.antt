@@ -10,73 +10,73 @@ use Rattle.rules.specs.declared.row.Record.{Record}
 use Rattle.rules.specs.Register.{Register, key_of, sound_register}
 use Rattle.rules.specs.Sheet.{insert}
 use Rattle.rules.specs.Closing.{present, fit_record}
-use Rattle.laws.specs.Tests.{not-true-false}
+use Rattle.laws.specs.Tests.{not_true_false}
 use Rattle.laws.specs.Says.{clash}
 use Rattle.laws.specs.ListLaws.{any→, →any}
 use Rattle.laws.specs.Distinct.{tri, less, more, equal}
 use Rattle.registers.specs.RegisterReadings.{row_at, no_row}
 use Rattle.registers.specs.RowsRise.{larger}
-use Rattle.laws.specs.Places.{at_mem, mem-at}
+use Rattle.laws.specs.Places.{at_mem, mem_at}
 
 -- ---- a key among the rows
 
-present-at : (g : Register) (i k : ℕ) → i < length g.rows → (row_at g i).key ≡ k → present g k ≡ true
+present_at : (g : Register) (i k : ℕ) → i < length g.rows → (row_at g i).key ≡ k → present g k ≡ true
 unfolding present row_at
-present-at g i k h e = →any (λ r. eqb r.key k) (at_mem no_row g.rows i h) (eq-eqb _ _ e)
+present_at g i k h e = →any (λ r. eqb r.key k) (at_mem no_row g.rows i h) (eq-eqb _ _ e)
 
 -- every row before place `at` has a smaller key, and the row there, if there is one, a larger
 pub record Nowhere (g : Register) (k at : ℕ) : Type 0 where
   pub before : (i : ℕ) → i < at → (row_at g i).key < k
   pub there : at < length g.rows → k < (row_at g at).key
 
-nowhere-not : (g : Register) (k at : ℕ) → sound_register g ≡ true → Nowhere g k at → (i : ℕ) → i < length g.rows → (row_at g i).key ≡ k → ⊥
-nowhere-not g k at s n i h e =
+nowhere_not : (g : Register) (k at : ℕ) → sound_register g ≡ true → Nowhere g k at → (i : ℕ) → i < length g.rows → (row_at g i).key ≡ k → ⊥
+nowhere_not g k at s n i h e =
     elim (tri i at) [
       | less l ↦ let a = n.before i l in absurd (omega arith)
       | equal q ↦ let a : k < (row_at g at).key = n.there (omega arith) in let b = ap (λ (j : ℕ). (row_at g j).key) q in absurd (omega arith)
       | more l ↦ let a : k < (row_at g at).key = n.there (omega arith) in let b = larger g s at i l h in absurd (omega arith)
     ]
 
-absent-at : (g : Register) (k at : ℕ) → sound_register g ≡ true → Nowhere g k at → present g k ≡ false
+absent_at : (g : Register) (k at : ℕ) → sound_register g ≡ true → Nowhere g k at → present g k ≡ false
 unfolding present row_at
-absent-at g k at s n =
-    not-true-false (λ e.
+absent_at g k at s n =
+    not_true_false (λ e.
     let p = any→ (λ r. eqb r.key k) g.rows e in
-    let q = mem-at no_row p.1 in
-    nowhere-not g k at s n q.0 q.1 (ap key_of q.2 ∙ eqb-true _ _ p.2))
+    let q = mem_at no_row p.1 in
+    nowhere_not g k at s n q.0 q.1 (ap key_of q.2 ∙ eqb-true _ _ p.2))
 
 -- ---- a record
 
 module _ (g : Register) (r : Record) where
-  fit-other : (r.kind ≡ insert → ⊥) → fit_record g r ≡ present g r.key
+  fit_other : (r.kind ≡ insert → ⊥) → fit_record g r ≡ present g r.key
   unfolding fit_record
-  fit-other n = rw (ne_eqb r.kind insert n)
+  fit_other n = rw (ne_eqb r.kind insert n)
 
-  fit-insert : r.kind ≡ insert → fit_record g r ≡ not (present g r.key)
+  fit_insert : r.kind ≡ insert → fit_record g r ≡ not (present g r.key)
   unfolding fit_record
-  fit-insert e = rw (eq-eqb r.kind insert e)
+  fit_insert e = rw (eq-eqb r.kind insert e)
 
   module _ (at : ℕ) (h : at < length g.rows) (e : (row_at g at).key ≡ r.key) where
-    pub fits-there : (r.kind ≡ insert → ⊥) → fit_record g r ≡ true
-    fits-there n = fit-other n ∙ present-at g at r.key h e
+    pub fits_there : (r.kind ≡ insert → ⊥) → fit_record g r ≡ true
+    fits_there n = fit_other n ∙ present_at g at r.key h e
 
-    pub wrong-there : r.kind ≡ insert → fit_record g r ≡ false
-    wrong-there n = fit-insert n ∙ ap not (present-at g at r.key h e)
+    pub wrong_there : r.kind ≡ insert → fit_record g r ≡ false
+    wrong_there n = fit_insert n ∙ ap not (present_at g at r.key h e)
 
   module _ (at : ℕ) (s : sound_register g ≡ true) (h : Nowhere g r.key at) where
-    pub fits-nowhere : r.kind ≡ insert → fit_record g r ≡ true
-    fits-nowhere n = fit-insert n ∙ ap not (absent-at g r.key at s h)
+    pub fits_nowhere : r.kind ≡ insert → fit_record g r ≡ true
+    fits_nowhere n = fit_insert n ∙ ap not (absent_at g r.key at s h)
 
-    pub wrong-nowhere : (r.kind ≡ insert → ⊥) → fit_record g r ≡ false
-    wrong-nowhere n = fit-other n ∙ absent-at g r.key at s h
+    pub wrong_nowhere : (r.kind ≡ insert → ⊥) → fit_record g r ≡ false
+    wrong_nowhere n = fit_other n ∙ absent_at g r.key at s h
 
 -- what a walk over the rows to place `at` tells of a record: its key is there and it is no insert, or it is nowhere
 pub record Walked (g : Register) (r : Record) (at : ℕ) (present : Bool) : Type 0 where
   pub nowhere : present ≡ false → Nowhere g r.key at
   pub there : present ≡ true → (at < length g.rows) × ((row_at g at).key ≡ r.key) × (r.kind ≡ insert → ⊥)
 
-pub walked-nowhere : (g : Register) (r : Record) (at : ℕ) {present : Bool} → present ≡ false → Nowhere g r.key at → Walked g r at present
-walked-nowhere g r at e n = record { nowhere = λ q. n; there = λ q. absurd (clash q e) }
+pub walked_nowhere : (g : Register) (r : Record) (at : ℕ) {present : Bool} → present ≡ false → Nowhere g r.key at → Walked g r at present
+walked_nowhere g r at e n = record { nowhere = λ q. n; there = λ q. absurd (clash q e) }
 
-pub walked-there : (g : Register) (r : Record) (at : ℕ) {present : Bool} → present ≡ true → at < length g.rows → (row_at g at).key ≡ r.key → (r.kind ≡ insert → ⊥) → Walked g r at present
-walked-there g r at e h k n = record { nowhere = λ q. absurd (clash e q); there = λ q. (h, k, n) }
+pub walked_there : (g : Register) (r : Record) (at : ℕ) {present : Bool} → present ≡ true → at < length g.rows → (row_at g at).key ≡ r.key → (r.kind ≡ insert → ⊥) → Walked g r at present
+walked_there g r at e h k n = record { nowhere = λ q. absurd (clash e q); there = λ q. (h, k, n) }

@@ -18,7 +18,7 @@ use Rattle.judging.specs.declared.key.FirstKey.TheVariants.{Key, None}
 use Rattle.judging.specs.Answers.{smaller}
 use Rattle.judging.specs.Tables.{none_at}
 use Rattle.judging.specs.Judged.{Inserts, InsertsIn, IsLeast, LeastAbove}
-use Rattle.judging.proofs.InOrder.{larger-record}
+use Rattle.judging.proofs.InOrder.{larger_record}
 
 -- ---- in one set
 
@@ -27,32 +27,32 @@ abbrev pub NoneBefore : WriteSet → ℕ → ℕ → Type 0
 NoneBefore w after j = (k : ℕ) → k < j → (record_at w k).kind ≡ insert → (record_at w k).key ≤ after
 
 module _ (w : WriteSet) (after j : ℕ) (f : NoneBefore w after j) where
-  pub insert-here : sound_records w.records ≡ true → j < length w.records → (record_at w j).kind ≡ insert → after < (record_at w j).key
+  pub insert_here : sound_records w.records ≡ true → j < length w.records → (record_at w j).kind ≡ insert → after < (record_at w j).key
       → LeastAbove (Inserts w) after (Key (record_at w j).key)
-  insert-here s h e a =
-      record { above = a; holds = record { number = j; within = h; is-insert = e; keyed = refl }; least = go }
+  insert_here s h e a =
+      record { above = a; holds = record { number = j; within = h; is_insert_lem = e; keyed = refl }; least = go }
     where
       go : (k : ℕ) → after < k → Inserts w k → (record_at w j).key ≤ k
       go k b p =
           let q = p.keyed in
-          let in-set = p.within in
+          let in_set = p.within in
           elim (tri p.number j) [
-            | less l ↦ let c = f p.number l p.is-insert in absurd (omega arith)
+            | less l ↦ let c = f p.number l p.is_insert_lem in absurd (omega arith)
             | equal l ↦ let c = ap (λ (n : ℕ). (record_at w n).key) l in omega arith
-            | more l ↦ let c = larger-record w s j p.number l in-set in omega arith
+            | more l ↦ let c = larger_record w s j p.number l in_set in omega arith
           ]
 
-  pub insert-none : length w.records ≤ j → LeastAbove (Inserts w) after None
-  insert-none h k b p =
-      let q = p.keyed in let in-set = p.within in let c = f p.number (omega arith) p.is-insert in omega arith
+  pub insert_none : length w.records ≤ j → LeastAbove (Inserts w) after None
+  insert_none h k b p =
+      let q = p.keyed in let in_set = p.within in let c = f p.number (omega arith) p.is_insert_lem in omega arith
 
 -- ---- the smaller of two
 
 module _ {P Q R : ℕ → Type 0} (after : ℕ) (of : (k : ℕ) → R k → P k ⊎ Q k) (left : (k : ℕ) → P k → R k) where
   -- P's least is R's, where Q has none
-  least-alone : (a : FirstKey) → LeastAbove P after a → LeastAbove Q after None → LeastAbove R after a
-  least-alone None p q = λ k h r. ⊎_elim (λ x. p k h x) (λ x. q k h x) (of k r)
-  least-alone (Key a) p q =
+  least_alone : (a : FirstKey) → LeastAbove P after a → LeastAbove Q after None → LeastAbove R after a
+  least_alone None p q = λ k h r. ⊎_elim (λ x. p k h x) (λ x. q k h x) (of k r)
+  least_alone (Key a) p q =
       record { above = p.above; holds = left a p.holds; least = λ k h r. ⊎_elim (λ x. p.least k h x) (λ x. absurd (q k h x)) (of k r) }
 
   -- or a larger one
@@ -70,8 +70,8 @@ swapped of k r = ⊎_elim inr inl (of k r)
 module _ {P Q R : ℕ → Type 0} (after : ℕ) (of : (k : ℕ) → R k → P k ⊎ Q k) (left : (k : ℕ) → P k → R k) (right : (k : ℕ) → Q k → R k) where
   smaller-least : (a b : FirstKey) → LeastAbove P after a → LeastAbove Q after b → LeastAbove R after (smaller a b)
   unfolding smaller
-  smaller-least None b p q = least-alone after (swapped of) right b q p
-  smaller-least (Key j) None p q = least-alone after of left (Key j) p q
+  smaller-least None b p q = least_alone after (swapped of) right b q p
+  smaller-least (Key j) None p q = least_alone after of left (Key j) p q
   smaller-least (Key j) (Key k) p q = go (ltb k j) refl
     where
       go : (t : Bool) → ltb k j ≡ t → LeastAbove R after (if t then Key k else Key j)
@@ -97,12 +97,12 @@ module _ (s : Sheet) (lost : List ℕ) (i : ℕ) where
       ]
 
   module _ (after : ℕ) where
-    pub inserts-more : (a b : FirstKey) → none_at lost i ≡ true → LeastAbove (InsertsIn s lost i) after a → LeastAbove (Inserts (set_at s i)) after b
+    pub inserts_more : (a b : FirstKey) → none_at lost i ≡ true → LeastAbove (InsertsIn s lost i) after a → LeastAbove (Inserts (set_at s i)) after b
         → LeastAbove (InsertsIn s lost (i + 1)) after (smaller a b)
-    inserts-more a b z p q = smaller-least after (λ k r. ⊎_elim inl (λ x. inr x.1) (split k r)) wider (here z) a b p q
+    inserts_more a b z p q = smaller-least after (λ k r. ⊎_elim inl (λ x. inr x.1) (split k r)) wider (here z) a b p q
 
-    pub inserts-same : (a : FirstKey) → none_at lost i ≡ false → LeastAbove (InsertsIn s lost i) after a → LeastAbove (InsertsIn s lost (i + 1)) after a
-    inserts-same a z p = least-alone after split wider a p (λ k h x. clash x.0 z)
+    pub inserts_same : (a : FirstKey) → none_at lost i ≡ false → LeastAbove (InsertsIn s lost i) after a → LeastAbove (InsertsIn s lost (i + 1)) after a
+    inserts_same a z p = least_alone after split wider a p (λ k h x. clash x.0 z)
 
-pub inserts-none : (s : Sheet) (lost : List ℕ) (after : ℕ) → LeastAbove (InsertsIn s lost 0) after None
-inserts-none s lost after k h r = let l = r.within in omega arith
+pub inserts_none : (s : Sheet) (lost : List ℕ) (after : ℕ) → LeastAbove (InsertsIn s lost 0) after None
+inserts_none s lost after k h r = let l = r.within in omega arith

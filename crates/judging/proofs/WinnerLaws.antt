@@ -19,51 +19,51 @@ use Rattle.rules.specs.Register.{Register}
 use Rattle.rules.specs.Sheet.{WriteSet, Sheet, csn_of, sound_sheet}
 use Rattle.rules.specs.Closing.{fit_record, fit, first_wrong, names, mark_in, winner, is_set, wins}
 use Rattle.rules.specs.Becoming.{applied_to}
-use Rattle.laws.specs.Tests.{left, right, both, not-true-false}
+use Rattle.laws.specs.Tests.{left, right, both, not_true_false}
 use Rattle.laws.specs.ListLaws.{first→}
 use Rattle.laws.specs.Says.{clash}
-use Rattle.laws.specs.Commits.{fit-record, no-wrong-fit}
-use Rattle.laws.specs.Precedence.{transitive, total, earlier-first, earlier-second}
-use Rattle.laws.specs.Distinct.{sheet-sorted, tri, less, more, equal}
-use Rattle.laws.specs.Winners.{sheet-apart, Claims, winner-is, winner-none}
-use Rattle.laws.specs.Places.{rising-at}
+use Rattle.laws.specs.Commits.{fit_record_lem, no_wrong_fit}
+use Rattle.laws.specs.Precedence.{transitive, total, earlier_first, earlier_second}
+use Rattle.laws.specs.Distinct.{sheet_sorted, tri, less, more, equal}
+use Rattle.laws.specs.Winners.{sheet_apart, Claims, winner_is, winner_none}
+use Rattle.laws.specs.Places.{rising_at}
 use Rattle.sheets.specs.SheetReadings.{set_at, no_set}
-use Rattle.sheets.specs.SheetMembers.{set-in, set-number}
+use Rattle.sheets.specs.SheetMembers.{set_in_lem, set_number}
 use Rattle.judging.specs.declared.lead.Winner.{Winner}
 use Rattle.judging.specs.declared.lead.Winner.TheVariants.{By, Nobody}
 use Rattle.judging.specs.declared.recorded.Recorded.{Recorded}
 use Rattle.judging.specs.declared.recorded.Recorded.TheVariants.{As, Nowhere}
 use Rattle.judging.specs.Answers.{first_key, recorded, winner_of, earlier_of, won_by}
 use Rattle.judging.specs.Tables.{is_none, none_at, claims_by, wrong_key, Tells}
-use Rattle.judging.specs.TableLaws.{wrong-told}
+use Rattle.judging.specs.TableLaws.{wrong_told}
 
 -- ---- no two sets of a sound sheet have one commit number
 
-csn-one : (s : Sheet) (i j : ℕ) → sound_sheet s ≡ true → i < length s.sets → j < length s.sets → (set_at s i).csn ≡ (set_at s j).csn → i ≡ j
+csn_one : (s : Sheet) (i j : ℕ) → sound_sheet s ≡ true → i < length s.sets → j < length s.sets → (set_at s i).csn ≡ (set_at s j).csn → i ≡ j
 unfolding set_at
-csn-one s i j e h k c =
-    let r = sheet-sorted s e in
+csn_one s i j e h k c =
+    let r = sheet_sorted s e in
     elim (tri i j) [
-      | less l ↦ let a = rising-at csn_of no_set r i j l k in absurd (omega arith)
+      | less l ↦ let a = rising_at csn_of no_set r i j l k in absurd (omega arith)
       | equal q ↦ q
-      | more l ↦ let a = rising-at csn_of no_set r j i l h in absurd (omega arith)
+      | more l ↦ let a = rising_at csn_of no_set r j i l h in absurd (omega arith)
     ]
 
 -- ---- a set of no wrong key is fit
 
-none-wrong : (g : Register) (w : WriteSet) → is_none (wrong_key g w) ≡ fit g w
+none_wrong : (g : Register) (w : WriteSet) → is_none (wrong_key g w) ≡ fit g w
 unfolding wrong_key first_key first_wrong
-none-wrong g w = go (first_wrong g w) refl
+none_wrong g w = go (first_wrong g w) refl
   where
     go : (o : Option Record) → first_wrong g w ≡ o → is_none (first_key o) ≡ fit g w
-    go none p = sym (no-wrong-fit g w p)
+    go none p = sym (no_wrong_fit g w p)
     go (some r) p =
         let f = first→ (λ r. not (fit_record g r)) w.records p in
-        sym (not-true-false (λ e. clash (fit-record g w e r f.0) (not-true _ f.1)))
+        sym (not_true_false (λ e. clash (fit_record_lem g w e r f.0) (not-true _ f.1)))
 
-fit-told : (g : Register) (s : Sheet) (wrong : List ℕ) → sound_sheet s ≡ true → Tells (wrong_key g) s wrong → (i : ℕ) → i < length s.sets → none_at wrong i ≡ fit g (set_at s i)
+fit_told : (g : Register) (s : Sheet) (wrong : List ℕ) → sound_sheet s ≡ true → Tells (wrong_key g) s wrong → (i : ℕ) → i < length s.sets → none_at wrong i ≡ fit g (set_at s i)
 unfolding none_at
-fit-told g s wrong sound t i h = ap is_none (wrong-told g s wrong sound t i h) ∙ none-wrong g (set_at s i)
+fit_told g s wrong sound t i h = ap is_none (wrong_told g s wrong sound t i h) ∙ none_wrong g (set_at s i)
 
 -- ---- who claims a key
 
@@ -85,13 +85,13 @@ named (x ∷ xs) key = go (eqb x.key key) (named xs key)
     go false e = e
 
 module _ (s : Sheet) (wrong : List ℕ) (i key : ℕ) where
-  pub unfit-not : none_at wrong i ≡ false → false ≡ claims_by s wrong i key
+  pub unfit_not : none_at wrong i ≡ false → false ≡ claims_by s wrong i key
   unfolding claims_by ◌and◌
-  unfit-not e = sym (ap (λ (b : Bool). b and names (set_at s i) key) e)
+  unfit_not e = sym (ap (λ (b : Bool). b and names (set_at s i) key) e)
 
-  pub fit-claims : {r : Recorded} → none_at wrong i ≡ true → r ≡ recorded (applied_to (set_at s i).records key) → is_recorded r ≡ claims_by s wrong i key
+  pub fit_claims : {r : Recorded} → none_at wrong i ≡ true → r ≡ recorded (applied_to (set_at s i).records key) → is_recorded r ≡ claims_by s wrong i key
   unfolding claims_by ◌and◌ names applied_to
-  fit-claims e f = ap is_recorded f ∙ named (set_at s i).records key ∙ sym (ap (λ (b : Bool). b and names (set_at s i) key) e)
+  fit_claims e f = ap is_recorded f ∙ named (set_at s i).records key ∙ sym (ap (λ (b : Bool). b and names (set_at s i) key) e)
 
 -- ---- who leads
 
@@ -113,72 +113,72 @@ module _ (s : Sheet) (wrong : List ℕ) (key : ℕ) where
     nobody : lead ≡ Nobody → ((u : ℕ) → u < i → Claim u → ⊥) → Lead i lead
     leads : (u : ℕ) → u < length s.sets → lead ≡ By (mark u) → Claim u → Leads i u → Lead i lead
 
-  pub lead-start : Lead 0 Nobody
-  lead-start = nobody refl (λ u h. absurd (omega arith))
+  pub lead_start : Lead 0 Nobody
+  lead_start = nobody refl (λ u h. absurd (omega arith))
 
-  pub lead-same : (i : ℕ) (lead : Winner) → Lead i lead → (Claim i → ⊥) → Lead (i + 1) lead
-  lead-same i lead (nobody e f) n = nobody e (below_more _ i f n)
-  lead-same i lead (leads u h e c f) n = leads u h e c (below_more _ i f (λ d. absurd (n d)))
+  pub lead_same : (i : ℕ) (lead : Winner) → Lead i lead → (Claim i → ⊥) → Lead (i + 1) lead
+  lead_same i lead (nobody e f) n = nobody e (below_more _ i f n)
+  lead_same i lead (leads u h e c f) n = leads u h e c (below_more _ i f (λ d. absurd (n d)))
 
   -- THE EARLIER OF TWO MARKS LEADS
-  pub lead-more : (i : ℕ) (lead : Winner) → sound_sheet s ≡ true → i < length s.sets → Lead i lead → Claim i → Lead (i + 1) (earlier_of lead (mark i))
-  lead-more i lead sound h (nobody e f) c =
+  pub lead_more : (i : ℕ) (lead : Winner) → sound_sheet s ≡ true → i < length s.sets → Lead i lead → Claim i → Lead (i + 1) (earlier_of lead (mark i))
+  lead_more i lead sound h (nobody e f) c =
       leads i h (ap (λ (l : Winner). earlier_of l (mark i)) e) c (below_more _ i (λ v k d. absurd (f v k d)) (λ d. inl refl))
-  lead-more i lead sound h (leads u k e d f) c = go (precedes (mark i) (mark u)) refl
+  lead_more i lead sound h (leads u k e d f) c = go (precedes (mark i) (mark u)) refl
     where
       after : precedes (mark i) (mark u) ≡ false → (i ≡ u) ⊎ (precedes (mark u) (mark i) ≡ true)
       after p =
           elim (ℕ_discrete i u) [
             | yes q ↦ inl q
-            | no q ↦ inr (total _ _ (λ m. q (csn-one s i u sound h k (ap (λ (x : Mark). x.csn) m))) p)
+            | no q ↦ inr (total _ _ (λ m. q (csn_one s i u sound h k (ap (λ (x : Mark). x.csn) m))) p)
           ]
 
       go : (t : Bool) → precedes (mark i) (mark u) ≡ t → Lead (i + 1) (earlier_of lead (mark i))
       go true p =
-          leads i h (ap (λ (l : Winner). earlier_of l (mark i)) e ∙ ap By (earlier-second (mark u) (mark i) p)) c
+          leads i h (ap (λ (l : Winner). earlier_of l (mark i)) e ∙ ap By (earlier_second (mark u) (mark i) p)) c
           (below_more _ i
           (λ v l b. inr (⊎_elim (λ q. ap (λ (x : ℕ). precedes (mark i) (mark x)) q ∙ p) (λ q. transitive _ _ _ p q) (f v l b)))
           (λ b. inl refl))
       go false p =
-          leads u k (ap (λ (l : Winner). earlier_of l (mark i)) e ∙ ap By (earlier-first (mark u) (mark i) p)) d
+          leads u k (ap (λ (l : Winner). earlier_of l (mark i)) e ∙ ap By (earlier_first (mark u) (mark i) p)) d
           (below_more _ i f (λ b. after p))
 
   module _ (sound : sound_sheet s ≡ true) (g : Register) (t : Tells (wrong_key g) s wrong) where
     -- what the table says of a set is so
     claim→ : (u : ℕ) → u < length s.sets → Claim u → Claims g s key (set_at s u)
     unfolding claims_by
-    claim→ u h c = record { in-sheet = set-in s u h; is-fit = sym (fit-told g s wrong sound t u h) ∙ left _ _ c; named = right _ _ c }
+    claim→ u h c = record { in_sheet = set_in_lem s u h; is_fit = sym (fit_told g s wrong sound t u h) ∙ left _ _ c; named = right _ _ c }
 
     →claim : (u : ℕ) → u < length s.sets → Claims g s key (set_at s u) → Claim u
     unfolding claims_by
-    →claim u h c = both (fit-told g s wrong sound t u h ∙ c.is-fit) c.named
+    →claim u h c = both (fit_told g s wrong sound t u h ∙ c.is_fit) c.named
 
     -- WHO LEADS ALL SETS WINS THE KEY
-    pub lead-wins : (i : ℕ) (lead : Winner) → length s.sets ≤ i → Lead i lead → lead ≡ winner_of s (winner g s key)
+    pub lead_wins : (i : ℕ) (lead : Winner) → length s.sets ≤ i → Lead i lead → lead ≡ winner_of s (winner g s key)
     unfolding winner_of
-    lead-wins i lead h (nobody e f) =
-        e ∙ sym (ap (winner_of s) (winner-none g s key (sheet-apart s sound) (λ w c.
-        let u = set-number s c.in-sheet in
+    lead_wins i lead h (nobody e f) =
+        e ∙ sym (ap (winner_of s) (winner_none g s key (sheet_apart s sound) (λ w c.
+        let u = set_number s c.in_sheet in
         let k = u.1 in
         f u.0 (omega arith) (→claim u.0 u.1 (rw (sym u.2) at c)))))
-    lead-wins i lead h (leads v n e c f) =
-        e ∙ sym (ap (winner_of s) (winner-is g s key (set_at s v) (sheet-apart s sound)
+    lead_wins i lead h (leads v n e c f) =
+        e ∙ sym (ap (winner_of s) (winner_is g s key (set_at s v) (sheet_apart s sound)
         (record {
           claimant = claim→ v n c;
-          precedes-others = λ w d.
-              let u = set-number s d.in-sheet in
+          precedes_others = λ w d.
+              let u = set_number s d.in_sheet in
               let k = u.1 in
               ⊎_elim (λ q. inl (sym u.2 ∙ ap (set_at s) q)) (λ q. inr (rw u.2 at q)) (f u.0 (omega arith) (→claim u.0 u.1 (rw (sym u.2) at d)));
         })))
 
 -- ---- whether a set is the winner, by its csn
 
-won-by : (s : Sheet) (w : WriteSet) (o : Option WriteSet) → won_by (winner_of s o) w.csn ≡ is_set w o
+won_by_lem : (s : Sheet) (w : WriteSet) (o : Option WriteSet) → won_by (winner_of s o) w.csn ≡ is_set w o
 unfolding winner_of is_set
-won-by s w none = refl
-won-by s w (some v) = refl
+won_by_lem s w none = refl
+won_by_lem s w (some v) = refl
 
 pub won : (g : Register) (s : Sheet) (w : WriteSet) (r : Record) {key csn : ℕ} {lead : Winner}
     → key ≡ r.key → csn ≡ w.csn → lead ≡ winner_of s (winner g s key) → won_by lead csn ≡ wins g s w r.key
 unfolding wins
-won g s w r {key} k c l = ap₂ won_by l c ∙ won-by s w (winner g s key) ∙ ap (λ (n : ℕ). is_set w (winner g s n)) k
+won g s w r {key} k c l = ap₂ won_by l c ∙ won_by_lem s w (winner g s key) ∙ ap (λ (n : ℕ). is_set w (winner g s n)) k

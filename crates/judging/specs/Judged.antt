@@ -23,7 +23,7 @@ of_kind kind rs = count (λ r. eqb r.kind kind) rs
 pub record Inserts (w : WriteSet) (k : ℕ) : Type 0 where
   pub number : ℕ
   pub within : number < length w.records
-  pub is-insert : (record_at w number).kind ≡ insert
+  pub is_insert_lem : (record_at w number).kind ≡ insert
   pub keyed : (record_at w number).key ≡ k
 
 -- one of the first n sets of a sheet inserts it, and by the table of lost keys that set commits
@@ -46,9 +46,9 @@ LeastAbove P after (Key k) = IsLeast P after k
 
 -- the bytes are a register and a sheet, and the two tables tell each set's first wrong and first lost key
 pub record Judged (register sheet : Bytes) (wrong lost : List ℕ) : Type 0 where
-  pub is-register : is_register register ≡ true
+  pub is_register_lem : is_register register ≡ true
   pub is-sheet : is_sheet sheet ≡ true
-  pub wrong-places : length wrong ≡ max_sets
-  pub lost-places : length lost ≡ max_sets
-  pub tells-wrong : Tells (wrong_key (register_in register)) (sheet_in sheet) wrong
-  pub tells-lost : Tells (lost_key (register_in register) (sheet_in sheet)) (sheet_in sheet) lost
+  pub wrong_places : length wrong ≡ max_sets
+  pub lost_places : length lost ≡ max_sets
+  pub tells_wrong : Tells (wrong_key (register_in register)) (sheet_in sheet) wrong
+  pub tells_lost : Tells (lost_key (register_in register) (sheet_in sheet)) (sheet_in sheet) lost

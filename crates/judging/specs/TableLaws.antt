@@ -14,16 +14,16 @@ use Rattle.rules.specs.Register.{Register}
 use Rattle.rules.specs.Sheet.{WriteSet, Sheet, sound_records, sound_sheet}
 use Rattle.rules.specs.Closing.{wins, first_wrong, first_lost, commits, committed}
 use Rattle.rules.specs.Becoming.{applied}
-use Rattle.laws.specs.Tests.{not-true-false}
-use Rattle.laws.specs.ListLaws.{first→, first-none, keep→, →keep, up_from→, →up_from}
+use Rattle.laws.specs.Tests.{not_true_false}
+use Rattle.laws.specs.ListLaws.{first→, first_none, keep→, →keep, up_from→, →up_from}
 use Rattle.laws.specs.Says.{clash}
 use Rattle.laws.specs.SheetLaws.{sound_set→}
-use Rattle.laws.specs.Winners.{sheet-apart, winner→, wins→}
-use Rattle.laws.specs.Commits.{set-sound, set-records, records-rising, fit-record, commits→, →commit, commits-of}
+use Rattle.laws.specs.Winners.{sheet_apart, winner→, wins→}
+use Rattle.laws.specs.Commits.{set_sound, set_records, records_rising, fit_record_lem, commits→, →commit, commits_of}
 use Rattle.laws.specs.Applied.{→applied}
-use Rattle.laws.specs.Places.{kept-places}
+use Rattle.laws.specs.Places.{kept_places}
 use Rattle.sheets.specs.SheetReadings.{set_at, no_set, record_at}
-use Rattle.sheets.specs.SheetMembers.{set-in, record-in}
+use Rattle.sheets.specs.SheetMembers.{set_in_lem, record_in_lem}
 use Rattle.judging.specs.Answers.{first_key}
 use Rattle.judging.specs.Tables.{in_table, from_table, is_none, none_at, committed_in, wrong_key, lost_key, Tells}
 
@@ -34,52 +34,52 @@ back p w e = go (first p w.records) refl
   where
     go : (o : Option Record) → first p w.records ≡ o → from_table (in_table (first_key o)) ≡ first_key o
     go none q = refl
-    go (some r) q = let h : 0 < r.key = (records-rising w.records e).1 r (first→ p w.records q).0 in rw (ne_eqb r.key 0 (omega arith))
+    go (some r) q = let h : 0 < r.key = (records_rising w.records e).1 r (first→ p w.records q).0 in rw (ne_eqb r.key 0 (omega arith))
 
 -- ---- the first wrong key
 
 module _ (g : Register) (s : Sheet) (wrong : List ℕ) (sound : sound_sheet s ≡ true) (t : Tells (wrong_key g) s wrong) (i : ℕ) (h : i < length s.sets) where
-  pub wrong-told : from_table (get_or wrong i 0) ≡ wrong_key g (set_at s i)
+  pub wrong_told : from_table (get_or wrong i 0) ≡ wrong_key g (set_at s i)
   unfolding wrong_key first_wrong
-  wrong-told = ap from_table (t i h) ∙ back _ (set_at s i) (set-records s (set_at s i) sound (set-in s i h))
+  wrong_told = ap from_table (t i h) ∙ back _ (set_at s i) (set_records s (set_at s i) sound (set_in_lem s i h))
 
 -- ---- no lost key
 
 module _ (g : Register) (s : Sheet) (w : WriteSet) (sound : sound_sheet s ≡ true) (m : Memᴰ w s.sets) where
   -- a set that wins all its keys is fit, since it wins one
-  none-lost : first_lost g s w ≡ none → commits g s w ≡ true
+  none_lost : first_lost g s w ≡ none → commits g s w ≡ true
   unfolding first_lost
-  none-lost p =
-      let won : (r : Record) → Memᴰ r w.records → wins g s w r.key ≡ true = λ r k. not-false _ (first-none (λ r. not (wins g s w r.key)) w.records p r k) in
-      let a = sheet-apart s sound in
-      let n = (sound_set→ s.epoch s.roster w (set-sound s w sound m)).some-records in
-      let k = record-in w 0 (omega arith) in
-      let f = (winner→ g s (record_at w 0).key w a (wins→ g s (record_at w 0).key w a m (won (record_at w 0) k))).claimant.is-fit in
-      commits-of g s w (→commit g s w (λ r i. (fit-record g w f r i, won r i)))
+  none_lost p =
+      let won : (r : Record) → Memᴰ r w.records → wins g s w r.key ≡ true = λ r k. not-false _ (first_none (λ r. not (wins g s w r.key)) w.records p r k) in
+      let a = sheet_apart s sound in
+      let n = (sound_set→ s.epoch s.roster w (set_sound s w sound m)).some_records in
+      let k = record_in_lem w 0 (omega arith) in
+      let f = (winner→ g s (record_at w 0).key w a (wins→ g s (record_at w 0).key w a m (won (record_at w 0) k))).claimant.is_fit in
+      commits_of g s w (→commit g s w (λ r i. (fit_record_lem g w f r i, won r i)))
 
-  lost-commits : is_none (lost_key g s w) ≡ commits g s w
+  lost_commits : is_none (lost_key g s w) ≡ commits g s w
   unfolding lost_key first_key first_lost
-  lost-commits = go (first_lost g s w) refl
+  lost_commits = go (first_lost g s w) refl
     where
       go : (o : Option Record) → first_lost g s w ≡ o → is_none (first_key o) ≡ commits g s w
-      go none p = sym (none-lost p)
+      go none p = sym (none_lost p)
       go (some r) p =
           let f = first→ (λ r. not (wins g s w r.key)) w.records p in
-          sym (not-true-false (λ e. clash (commits→ g s w e r f.0).1 (not-true _ f.1)))
+          sym (not_true_false (λ e. clash (commits→ g s w e r f.0).1 (not-true _ f.1)))
 
 module _ (g : Register) (s : Sheet) (lost : List ℕ) (sound : sound_sheet s ≡ true) (t : Tells (lost_key g s) s lost) (i : ℕ) (h : i < length s.sets) where
-  pub lost-told : from_table (get_or lost i 0) ≡ lost_key g s (set_at s i)
+  pub lost_told : from_table (get_or lost i 0) ≡ lost_key g s (set_at s i)
   unfolding lost_key first_lost
-  lost-told = ap from_table (t i h) ∙ back _ (set_at s i) (set-records s (set_at s i) sound (set-in s i h))
+  lost_told = ap from_table (t i h) ∙ back _ (set_at s i) (set_records s (set_at s i) sound (set_in_lem s i h))
 
-  pub commit-told : none_at lost i ≡ commits g s (set_at s i)
+  pub commit_told : none_at lost i ≡ commits g s (set_at s i)
   unfolding none_at
-  commit-told = ap is_none lost-told ∙ lost-commits g s (set_at s i) sound (set-in s i h)
+  commit_told = ap is_none lost_told ∙ lost_commits g s (set_at s i) sound (set_in_lem s i h)
 
 -- THE SETS THAT COMMIT BY THE TABLE OF LOST KEYS ARE THOSE THAT CLOSING COMMITS
-pub table-commits : (g : Register) (s : Sheet) (lost : List ℕ) → sound_sheet s ≡ true → Tells (lost_key g s) s lost → committed_in s lost ≡ committed g s
+pub table_commits : (g : Register) (s : Sheet) (lost : List ℕ) → sound_sheet s ≡ true → Tells (lost_key g s) s lost → committed_in s lost ≡ committed g s
 unfolding committed_in committed set_at
-table-commits g s lost sound t = kept-places no_set (commits g s) (none_at lost) s.sets (commit-told g s lost sound t)
+table_commits g s lost sound t = kept_places no_set (commits g s) (none_at lost) s.sets (commit_told g s lost sound t)
 
 -- ---- the sets that commit by a table, by their places
 
@@ -104,7 +104,7 @@ module _ (s : Sheet) (lost : List ℕ) where
   →committed_in i h e = Memᴰ.map (set_at s) (→keep (none_at lost) (→up_from 0 (length s.sets) (omega arith) (omega arith)) e)
 
   -- the records of such a set are applied
-  pub applied-at : (i j : ℕ) → i < length s.sets → none_at lost i ≡ true → j < length (set_at s i).records → Memᴰ (record_at (set_at s i) j) (applied (committed_in s lost))
-  applied-at i j h e k =
+  pub applied_at : (i j : ℕ) → i < length s.sets → none_at lost i ≡ true → j < length (set_at s i).records → Memᴰ (record_at (set_at s i) j) (applied (committed_in s lost))
+  applied_at i j h e k =
       →applied (committed_in s lost) (record_at (set_at s i) j)
-      (record { set = set_at s i; committed = →committed_in i h e; in-set = record-in (set_at s i) j k })
+      (record { set = set_at s i; committed = →committed_in i h e; in_set = record_in_lem (set_at s i) j k })

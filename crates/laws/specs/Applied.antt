@@ -12,10 +12,10 @@ use Rattle.rules.specs.Sheet.{WriteSet, Sheet, record_key, sound_record, sound_r
 use Rattle.rules.specs.Closing.{fit_record, names}
 use Rattle.rules.specs.Becoming.{applied, applied_to}
 use Rattle.laws.specs.Tests.{right}
-use Rattle.laws.specs.ListLaws.{all→, keep→, first→, first-none, flat→, →flat}
+use Rattle.laws.specs.ListLaws.{all→, keep→, first→, first_none, flat→, →flat}
 use Rattle.laws.specs.Rising.{Rising, nil, cons}
 use Rattle.laws.specs.Distinct.{Sorted}
-use Rattle.laws.specs.Commits.{set-records, records-rising, fit-record, names-own}
+use Rattle.laws.specs.Commits.{set_records, records_rising, fit_record_lem, names_own}
 use Rattle.laws.specs.Choice.{Choice}
 
 -- no two of the records have one key
@@ -39,22 +39,22 @@ each_keep p (one_more {r} {rs} f s) = go (p r) (each_keep p s)
     go true k = one_more (λ q m c. f q (keep→ p rs m).0 c) k
     go false k = k
 
-apart-keys : (q r : Record) → r.key < q.key → q.key ≡ r.key → ⊥
-apart-keys q r h c = omega arith
+apart_keys : (q r : Record) → r.key < q.key → q.key ≡ r.key → ⊥
+apart_keys q r h c = omega arith
 
-rising-each : {rs : List Record} → Rising record_key rs → OneEach rs
-rising-each nil = none_left
-rising-each (cons {x} f r) = one_more (λ q m c. apart-keys q x (f q m) c) (rising-each r)
+rising_each : {rs : List Record} → Rising record_key rs → OneEach rs
+rising_each nil = none_left
+rising_each (cons {x} f r) = one_more (λ q m c. apart_keys q x (f q m) c) (rising_each r)
 
 -- the records of sets of which no two share a key
-flat-each : {ws : List WriteSet} → Sorted ws → ((w : WriteSet) → Memᴰ w ws → OneEach w.records)
+flat_each : {ws : List WriteSet} → Sorted ws → ((w : WriteSet) → Memᴰ w ws → OneEach w.records)
     → ((v w : WriteSet) (p q : Record) → Memᴰ v ws → Memᴰ w ws → Memᴰ p v.records → Memᴰ q w.records → p.key ≡ q.key → v ≡ w)
     → OneEach (flat (λ w. w.records) ws)
 unfolding flat
-flat-each nil d a = none_left
-flat-each (cons {x = w} {xs = ws} f s) d a =
+flat_each nil d a = none_left
+flat_each (cons {x = w} {xs = ws} f s) d a =
     each_append (d w (Memᴰ.head refl))
-    (flat-each s (λ v m. d v (Memᴰ.tail m)) (λ u v p q m k. a u v p q (Memᴰ.tail m) (Memᴰ.tail k)))
+    (flat_each s (λ v m. d v (Memᴰ.tail m)) (λ u v p q m k. a u v p q (Memᴰ.tail m) (Memᴰ.tail k)))
     (λ p q m k c. let v = flat→ (λ w. w.records) ws k in clash v.0 (f v.0 v.1) (a w v.0 p q (Memᴰ.head refl) (Memᴰ.tail v.1) m v.2 c))
   where
     clash : (v : WriteSet) → w.csn < v.csn → w ≡ v → ⊥
@@ -66,39 +66,39 @@ flat-each (cons {x = w} {xs = ws} f s) d a =
 pub record IsApplied (c : List WriteSet) (r : Record) : Type 0 where
   pub set : WriteSet
   pub committed : Memᴰ set c
-  pub in-set : Memᴰ r set.records
+  pub in_set : Memᴰ r set.records
 
 pub applied→ : (c : List WriteSet) (r : Record) → Memᴰ r (applied c) → IsApplied c r
 unfolding applied
-applied→ c r m = let a = flat→ (λ w. w.records) c m in record { set = a.0; committed = a.1; in-set = a.2 }
+applied→ c r m = let a = flat→ (λ w. w.records) c m in record { set = a.0; committed = a.1; in_set = a.2 }
 
 pub →applied : (c : List WriteSet) (r : Record) → IsApplied c r → Memᴰ r (applied c)
 unfolding applied
-→applied c r a = →flat (λ w. w.records) a.committed a.in-set
+→applied c r a = →flat (λ w. w.records) a.committed a.in_set
 
 module _ (g : Register) (s : Sheet) (c : List WriteSet) (h : Choice g s c) where
   -- it fits the register
-  pub applied-fits : (r : Record) → Memᴰ r (applied c) → fit_record g r ≡ true
-  applied-fits r m = let a = applied→ c r m in fit-record g a.set (h.are-fit a.set a.committed) r a.in-set
+  pub applied_fits : (r : Record) → Memᴰ r (applied c) → fit_record g r ≡ true
+  applied_fits r m = let a = applied→ c r m in fit_record_lem g a.set (h.are_fit a.set a.committed) r a.in_set
 
   module _ (sound : sound_sheet s ≡ true) where
-    committed-records : (w : WriteSet) → Memᴰ w c → sound_records w.records ≡ true
-    committed-records w m = set-records s w sound (h.in-sheet w m)
+    committed_records : (w : WriteSet) → Memᴰ w c → sound_records w.records ≡ true
+    committed_records w m = set_records s w sound (h.in_sheet w m)
 
     -- NO TWO APPLIED RECORDS HAVE ONE KEY
-    pub applied-each : OneEach (applied c)
+    pub applied_each : OneEach (applied c)
     unfolding applied
-    applied-each =
-        flat-each h.in_order (λ w m. rising-each (records-rising w.records (committed-records w m)).0)
-        (λ v w p q m n k l e. h.one-on-a-key v w p.key m n (names-own v p k) (ap (names w) e ∙ names-own w q l))
+    applied_each =
+        flat_each h.in_order (λ w m. rising_each (records_rising w.records (committed_records w m)).0)
+        (λ v w p q m n k l e. h.one_on_a_key v w p.key m n (names_own v p k) (ap (names w) e ∙ names_own w q l))
 
     -- the numbers of an applied record are sound, and its key is above 0
-    pub applied-sound : (r : Record) → Memᴰ r (applied c) → sound_record r ≡ true
+    pub applied_sound : (r : Record) → Memᴰ r (applied c) → sound_record r ≡ true
     unfolding sound_records
-    applied-sound r m = let a = applied→ c r m in all→ sound_record (right _ _ (right _ _ (right _ _ (committed-records a.set a.committed)))) a.in-set
+    applied_sound r m = let a = applied→ c r m in all→ sound_record (right _ _ (right _ _ (right _ _ (committed_records a.set a.committed)))) a.in_set
 
-    pub applied-above : (r : Record) → Memᴰ r (applied c) → 0 < r.key
-    applied-above r m = let a = applied→ c r m in (records-rising a.set.records (committed-records a.set a.committed)).1 r a.in-set
+    pub applied_above : (r : Record) → Memᴰ r (applied c) → 0 < r.key
+    applied_above r m = let a = applied→ c r m in (records_rising a.set.records (committed_records a.set a.committed)).1 r a.in_set
 
 -- ---- the applied record of a key
 
@@ -106,25 +106,25 @@ pub applied_to→ : (rs : List Record) (k : ℕ) (r : Record) → applied_to rs 
 unfolding applied_to
 applied_to→ rs k r e = let f = first→ (λ q. eqb q.key k) rs e in (f.0, eqb-true r.key k f.1)
 
-pub applied_to-none : (rs : List Record) (k : ℕ) → ((r : Record) → Memᴰ r rs → r.key ≡ k → ⊥) → applied_to rs k ≡ none
-applied_to-none rs k h = go (applied_to rs k) refl
+pub applied_to_none : (rs : List Record) (k : ℕ) → ((r : Record) → Memᴰ r rs → r.key ≡ k → ⊥) → applied_to rs k ≡ none
+applied_to_none rs k h = go (applied_to rs k) refl
   where
     go : (o : Option Record) → applied_to rs k ≡ o → o ≡ none
     go none e = refl
     go (some r) e = let f = applied_to→ rs k r e in absurd (h r f.0 f.1)
 
-each-one : {rs : List Record} {p q : Record} → OneEach rs → Memᴰ p rs → Memᴰ q rs → p.key ≡ q.key → p ≡ q
-each-one none_left m n c = absurd (Memᴰ.not-nil m)
-each-one {p} {q} (one_more {r} f s) m n c =
+each_one : {rs : List Record} {p q : Record} → OneEach rs → Memᴰ p rs → Memᴰ q rs → p.key ≡ q.key → p ≡ q
+each_one none_left m n c = absurd (Memᴰ.not-nil m)
+each_one {p} {q} (one_more {r} f s) m n c =
     ⊎_elim
     (λ i. ⊎_elim (λ j. i ∙ sym j) (λ j. absurd (f q j (sym c ∙ ap record_key i))) (Memᴰ.cases_cons n))
-    (λ i. ⊎_elim (λ j. absurd (f p i (c ∙ ap record_key j))) (λ j. each-one s i j c) (Memᴰ.cases_cons n))
+    (λ i. ⊎_elim (λ j. absurd (f p i (c ∙ ap record_key j))) (λ j. each_one s i j c) (Memᴰ.cases_cons n))
     (Memᴰ.cases_cons m)
 
-pub applied_to-is : (rs : List Record) (r : Record) → OneEach rs → Memᴰ r rs → applied_to rs r.key ≡ some r
+pub applied_to_is : (rs : List Record) (r : Record) → OneEach rs → Memᴰ r rs → applied_to rs r.key ≡ some r
 unfolding applied_to
-applied_to-is rs r h m = go (first (λ q. eqb q.key r.key) rs) refl
+applied_to_is rs r h m = go (first (λ q. eqb q.key r.key) rs) refl
   where
     go : (o : Option Record) → first (λ q. eqb q.key r.key) rs ≡ o → o ≡ some r
-    go none e = absurd (false≢true (sym (first-none (λ q. eqb q.key r.key) rs e r m) ∙ eq-eqb r.key r.key refl))
-    go (some q) e = let f = first→ (λ q. eqb q.key r.key) rs e in ap some (each-one h f.0 m (eqb-true q.key r.key f.1))
+    go none e = absurd (false≢true (sym (first_none (λ q. eqb q.key r.key) rs e r m) ∙ eq-eqb r.key r.key refl))
+    go (some q) e = let f = first→ (λ q. eqb q.key r.key) rs e in ap some (each_one h f.0 m (eqb-true q.key r.key f.1))

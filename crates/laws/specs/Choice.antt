@@ -10,16 +10,16 @@ use Rattle.rules.specs.Register.{Register}
 use Rattle.rules.specs.Sheet.{WriteSet, csn_of, Sheet, sound_sheet}
 use Rattle.rules.specs.Closing.{fit, names, commits, committed}
 use Rattle.rules.specs.Becoming.{committed_on}
-use Rattle.laws.specs.ListLaws.{Sub, keep→, →keep, first→, first-none}
-use Rattle.laws.specs.Rising.{rising-keep}
-use Rattle.laws.specs.Distinct.{Sorted, sheet-sorted}
-use Rattle.laws.specs.Commits.{names→, commits-iff, commits-apart}
+use Rattle.laws.specs.ListLaws.{Sub, keep→, →keep, first→, first_none}
+use Rattle.laws.specs.Rising.{rising_keep}
+use Rattle.laws.specs.Distinct.{Sorted, sheet_sorted}
+use Rattle.laws.specs.Commits.{names→, commits_iff, commits_apart}
 
 pub record Choice (g : Register) (s : Sheet) (c : List WriteSet) : Type 0 where
-  pub in-sheet : Sub c s.sets
+  pub in_sheet : Sub c s.sets
   pub in_order : Sorted c
-  pub are-fit : (w : WriteSet) → Memᴰ w c → fit g w ≡ true
-  pub one-on-a-key : (v w : WriteSet) (k : ℕ) → Memᴰ v c → Memᴰ w c → names v k ≡ true → names w k ≡ true → v ≡ w
+  pub are_fit : (w : WriteSet) → Memᴰ w c → fit g w ≡ true
+  pub one_on_a_key : (v w : WriteSet) (k : ℕ) → Memᴰ v c → Memᴰ w c → names v k ≡ true → names w k ≡ true → v ≡ w
 
 -- ---- the committed set on a key
 
@@ -31,24 +31,24 @@ pub committed_on→ : (c : List WriteSet) (k : ℕ) (w : WriteSet) → committed
 unfolding committed_on
 committed_on→ c k w e = first→ (λ v. names v k) c e
 
-pub committed_on-none→ : (c : List WriteSet) (k : ℕ) → committed_on c k ≡ none → Unnamed c k
+pub committed_on_none→ : (c : List WriteSet) (k : ℕ) → committed_on c k ≡ none → Unnamed c k
 unfolding committed_on
-committed_on-none→ c k e w m n = false≢true (sym (first-none (λ v. names v k) c e w m) ∙ n)
+committed_on_none→ c k e w m n = false≢true (sym (first_none (λ v. names v k) c e w m) ∙ n)
 
-pub →committed_on-none : (c : List WriteSet) (k : ℕ) → Unnamed c k → committed_on c k ≡ none
-→committed_on-none c k u = go (committed_on c k) refl
+pub →committed_on_none : (c : List WriteSet) (k : ℕ) → Unnamed c k → committed_on c k ≡ none
+→committed_on_none c k u = go (committed_on c k) refl
   where
     go : (o : Option WriteSet) → committed_on c k ≡ o → o ≡ none
     go none e = refl
     go (some w) e = let f = committed_on→ c k w e in absurd (u w f.0 f.1)
 
-pub committed_on-is : (g : Register) (s : Sheet) (c : List WriteSet) → Choice g s c → (k : ℕ) (w : WriteSet) → Memᴰ w c → names w k ≡ true → committed_on c k ≡ some w
+pub committed_on_is : (g : Register) (s : Sheet) (c : List WriteSet) → Choice g s c → (k : ℕ) (w : WriteSet) → Memᴰ w c → names w k ≡ true → committed_on c k ≡ some w
 unfolding committed_on
-committed_on-is g s c h k w m n = go (first (λ v. names v k) c) refl
+committed_on_is g s c h k w m n = go (first (λ v. names v k) c) refl
   where
     go : (o : Option WriteSet) → first (λ v. names v k) c ≡ o → o ≡ some w
-    go none e = absurd (false≢true (sym (first-none (λ v. names v k) c e w m) ∙ n))
-    go (some v) e = let f = first→ (λ v. names v k) c e in ap some (h.one-on-a-key v w k f.0 m f.1 n)
+    go none e = absurd (false≢true (sym (first_none (λ v. names v k) c e w m) ∙ n))
+    go (some v) e = let f = first→ (λ v. names v k) c e in ap some (h.one_on_a_key v w k f.0 m f.1 n)
 
 -- ---- the sets that closing commits
 
@@ -65,13 +65,13 @@ pub chosen : (g : Register) (s : Sheet) → sound_sheet s ≡ true → Choice g 
 unfolding committed
 chosen g s e =
     record {
-      in-sheet = λ w m. (committed→ g s m).0;
-      in_order = rising-keep csn_of (commits g s) (sheet-sorted s e);
-      are-fit = λ w m. let k = committed→ g s m in ((commits-iff g s w e k.0).told k.1).is-fit;
-      one-on-a-key = λ v w k m n p q.
+      in_sheet = λ w m. (committed→ g s m).0;
+      in_order = rising_keep csn_of (commits g s) (sheet_sorted s e);
+      are_fit = λ w m. let k = committed→ g s m in ((commits_iff g s w e k.0).told k.1).is_fit;
+      one_on_a_key = λ v w k m n p q.
           let a = committed→ g s m in
           let b = committed→ g s n in
           let i = names→ v k p in
           let j = names→ w k q in
-          commits-apart g s v w i.0 j.0 e a.0 b.0 a.1 b.1 i.1 j.1 (i.2 ∙ sym j.2);
+          commits_apart g s v w i.0 j.0 e a.0 b.0 a.1 b.1 i.1 j.1 (i.2 ∙ sym j.2);
     }

@@ -17,14 +17,14 @@ use Rattle.rules.specs.Becoming.{next_rows, next}
 use Rattle.rules.specs.Refused.{Outcome, refused, done, Closing, closing, register_room, verdict_room, close_sheet, close_outcome}
 use Rattle.rules.specs.Promises.{over, ClosePromise}
 use Rattle.rules.specs.Applies.{to_close, Foremost}
-use Rattle.laws.specs.Tests.{or-false}
+use Rattle.laws.specs.Tests.{or_false}
 use Rattle.laws.specs.RegisterLaws as register
 use Rattle.laws.specs.SheetLaws as sheet
-use Rattle.laws.specs.NextSound.{next-read}
-use Rattle.laws.specs.NotRefused.{refused-not, done-same, passed}
-use Rattle.laws.specs.Exactly.{first_for, foremost, none-applies, close-exactly}
-use Rattle.laws.specs.Meets.{refuses-closing, writes-closing}
-use Rattle.laws.specs.Kept.{kept-wrote-closing, kept-refuses-closing}
+use Rattle.laws.specs.NextSound.{next_read}
+use Rattle.laws.specs.NotRefused.{refused_not, done_same, passed}
+use Rattle.laws.specs.Exactly.{first_for, foremost, none_applies, close_exactly}
+use Rattle.laws.specs.Meets.{refuses_closing, writes_closing}
+use Rattle.laws.specs.Kept.{kept_wrote_closing, kept_refuses_closing}
 
 -- what a closing answers, and what it leaves in its two buffers
 pub record Left : Type 0 where
@@ -46,14 +46,14 @@ refuses_with x next verdicts = record { answer = Refused x; next = next; verdict
 
 -- nothing refuses the closing of this register and this sheet
 pub record Closes (r t : Bytes) (next_room room : ℕ) (g : Register) (s : Sheet) : Type 0 where
-  pub reads-register : read_register r ≡ some g
-  pub reads-sheet : read_sheet t ≡ some s
+  pub reads_register : read_register r ≡ some g
+  pub reads_sheet : read_sheet t ≡ some s
   pub follows : s.epoch ≡ g.snapshot + 1
   pub unspoiled : s.spoiled ≡ false
-  pub all-sent : complete s ≡ true
+  pub all_sent : complete s ≡ true
   pub few : length (next_rows g s) ≤ max_rows
-  pub next-room : register_room ≤ next_room
-  pub verdict-room : verdict_room ≤ room
+  pub next_room_lem : register_room ≤ next_room
+  pub verdict_room_lem : verdict_room ≤ room
 
 -- DEMAND 2
 pub record Demand2 (c : Closer) : Type 0 where
@@ -77,64 +77,64 @@ closes→ r t n m c p = go (read_register r) refl (read_sheet t) refl p
   where
     go : (a : Option Register) → read_register r ≡ a → (b : Option Sheet) → read_sheet t ≡ b → close_sheet a b n m ≡ done c
         → (g : Register) × (s : Sheet) × Closes r t n m g s × (c ≡ closing g s)
-    go none e b f p = absurd (refused-not p)
-    go (some g) e none f p = absurd (refused-not p)
+    go none e b f p = absurd (refused_not p)
+    go (some g) e none f p = absurd (refused_not p)
     go (some g) e (some s) f p =
         let p₁ = passed (not (eqb s.epoch (g.snapshot + 1))) 4 _ c p in
         let p₂ = passed s.spoiled 6 _ c p₁.1 in
         let p₃ = passed (not (complete s)) 7 _ c p₂.1 in
         let p₄ = passed (ltb max_rows (length (next_rows g s))) 8 _ c p₃.1 in
         let p₅ = passed (ltb n register_room or ltb m verdict_room) 9 _ c p₄.1 in
-        let rooms = or-false _ _ p₅.0 in (
+        let rooms = or_false _ _ p₅.0 in (
           g,
           s,
           record {
-            reads-register = e;
-            reads-sheet = f;
+            reads_register = e;
+            reads_sheet = f;
             follows = eqb-true _ _ (not-false _ p₁.0);
             unspoiled = p₂.0;
-            all-sent = not-false _ p₃.0;
+            all_sent = not-false _ p₃.0;
             few = ltb-false max_rows (length (next_rows g s)) p₄.0;
-            next-room = ltb-false n register_room rooms.0;
-            verdict-room = ltb-false m verdict_room rooms.1;
+            next_room_lem = ltb-false n register_room rooms.0;
+            verdict_room_lem = ltb-false m verdict_room rooms.1;
           },
-          sym (done-same p₅.1),
+          sym (done_same p₅.1),
         )
 
 pub →closes : (r t : Bytes) (n m : ℕ) (g : Register) (s : Sheet) → Closes r t n m g s → close_outcome r t n m ≡ done (closing g s)
 unfolding close_outcome close_sheet ◌or◌
 →closes r t n m g s h =
     simp (
-      h.reads-register,
-      h.reads-sheet,
+      h.reads_register,
+      h.reads_sheet,
       eq-eqb _ _ h.follows,
       h.unspoiled,
-      h.all-sent,
+      h.all_sent,
       le-ltb max_rows (length (next_rows g s)) h.few,
-      le-ltb n register_room h.next-room,
-      le-ltb m verdict_room h.verdict-room,
+      le-ltb n register_room h.next_room_lem,
+      le-ltb m verdict_room h.verdict_room_lem,
     )
 
 -- ---- what demand 2 asks is what `close` promises
 
 module _ (r t next verdicts : Bytes) (l : Left) (p : Promised (close_outcome r t (length next) (length verdicts)) next verdicts l) where
   -- A CALL THAT KEEPS THE PROMISE OF CLOSE DOES WHAT IS ASKED, where nothing refuses
-  pub promised-closes : (g : Register) (s : Sheet) → Closes r t (length next) (length verdicts) g s → l ≡ writes (closing g s) next verdicts
-  promised-closes g s h =
-      let w = kept-wrote-closing (close_outcome r t (length next) (length verdicts)) (→closes r t (length next) (length verdicts) g s h) p in
+  pub promised_closes : (g : Register) (s : Sheet) → Closes r t (length next) (length verdicts) g s → l ≡ writes (closing g s) next verdicts
+  promised_closes g s h =
+      let w = kept_wrote_closing (close_outcome r t (length next) (length verdicts)) (→closes r t (length next) (length verdicts) g s h) p in
       λ i. record { answer = w.0 i; next = w.1 i; verdicts = w.2 i }
 
   -- and where a refusal is the foremost that applies
-  pub promised-refuses : (x : Refusal) → Foremost (to_close r t (length next) (length verdicts)) x → l ≡ refuses_with x next verdicts
-  promised-refuses x h =
-      let w = kept-refuses-closing (close_outcome r t (length next) (length verdicts)) ((close-exactly r t (length next) (length verdicts)).refused-when x h) p in
+  pub promised_refuses : (x : Refusal) → Foremost (to_close r t (length next) (length verdicts)) x → l ≡ refuses_with x next verdicts
+  promised_refuses x h =
+      let w = kept_refuses_closing (close_outcome r t (length next) (length verdicts)) ((close_exactly r t (length next) (length verdicts)).refused_when x h) p in
       λ i. record { answer = w.0 i; next = w.1 i; verdicts = w.2 i }
 
 -- SO WHOEVER KEEPS THE PROMISE OF CLOSE MEETS DEMAND 2
 pub keeps_meets : (c : Closer) → Keeps c → Demand2 c
 keeps_meets c k = record {
-  closes = λ r t next verdicts. promised-closes r t next verdicts (c r t next verdicts) (k r t next verdicts);
-  refuses = λ r t next verdicts. promised-refuses r t next verdicts (c r t next verdicts) (k r t next verdicts);
+  closes = λ r t next verdicts. promised_closes r t next verdicts (c r t next verdicts) (k r t next verdicts);
+  refuses = λ r t next verdicts. promised_refuses r t next verdicts (c r t next verdicts) (k r t next verdicts);
 }
 
 -- AND IT SETTLES THE OUTCOME: whoever meets it does what the paper does
@@ -143,12 +143,12 @@ settles c d r t next verdicts = go (close_outcome r t (length next) (length verd
   where
     go : (o : Outcome Closing) → close_outcome r t (length next) (length verdicts) ≡ o → Promised o next verdicts (c r t next verdicts)
     go (refused n) e =
-        let w = (close-exactly r t (length next) (length verdicts)).only-when n e in
-        subst (Promised (refused n) next verdicts) (sym (d.refuses r t next verdicts w.0 w.2)) (refuses-closing (refused n) w.0 next verdicts (ap refused w.1))
+        let w = (close_exactly r t (length next) (length verdicts)).only_when n e in
+        subst (Promised (refused n) next verdicts) (sym (d.refuses r t next verdicts w.0 w.2)) (refuses_closing (refused n) w.0 next verdicts (ap refused w.1))
     go (done k) e =
         let w = closes→ r t (length next) (length verdicts) k e in
         subst (Promised (done k) next verdicts) (sym (d.closes r t next verdicts w.0 w.1 w.2))
-        (writes-closing (done k) (closing w.0 w.1) next verdicts (ap done w.3))
+        (writes_closing (done k) (closing w.0 w.1) next verdicts (ap done w.3))
 
 -- what is left where this refusal is the foremost that applies, or none does
 unfoldable pub leaves : Option Refusal → Closing → Bytes → Bytes → Left
@@ -159,39 +159,39 @@ leaves (some x) c next verdicts = refuses_with x next verdicts
 unfoldable pub paper_closer : Closer
 paper_closer r t next verdicts = leaves (first_for (to_close r t (length next) (length verdicts))) (closing (register_in r) (sheet_in t)) next verdicts
 
-paper-keeps : Keeps paper_closer
+paper_keeps : Keeps paper_closer
 unfolding leaves paper_closer
-paper-keeps r t next verdicts = go (first_for (to_close r t (length next) (length verdicts))) refl
+paper_keeps r t next verdicts = go (first_for (to_close r t (length next) (length verdicts))) refl
   where
     go : (f : Option Refusal) → first_for (to_close r t (length next) (length verdicts)) ≡ f
         → Promised (close_outcome r t (length next) (length verdicts)) next verdicts (leaves f (closing (register_in r) (sheet_in t)) next verdicts)
-    go none e = writes-closing _ _ next verdicts ((close-exactly r t (length next) (length verdicts)).else-done (none-applies _ e))
-    go (some x) e = refuses-closing _ x next verdicts ((close-exactly r t (length next) (length verdicts)).refused-when x (foremost _ x e))
+    go none e = writes_closing _ _ next verdicts ((close_exactly r t (length next) (length verdicts)).else_done (none_applies _ e))
+    go (some x) e = refuses_closing _ x next verdicts ((close_exactly r t (length next) (length verdicts)).refused_when x (foremost _ x e))
 
 -- THE PAPER'S CLOSING MEETS IT
-pub paper-closes : Demand2 paper_closer
-paper-closes = keeps_meets paper_closer paper-keeps
+pub paper_closes : Demand2 paper_closer
+paper_closes = keeps_meets paper_closer paper_keeps
 
 -- CLOSED AGAIN ON ITS RESULT, THE SAME SHEET IS REFUSED WITH 4
-pub closed-again : (r t : Bytes) (n m : ℕ) (c : Closing) → close_outcome r t n m ≡ done c
+pub closed_again : (r t : Bytes) (n m : ℕ) (c : Closing) → close_outcome r t n m ≡ done c
     → (n' m' : ℕ) → close_outcome c.register t n' m' ≡ refused 4
 unfolding close_outcome close_sheet closing next
-closed-again r t n m c p n' m' =
+closed_again r t n m c p n' m' =
     let q = closes→ r t n m c p in
     let g = q.0 in
     let s = q.1 in
     let h = q.2 in
-    let sound_g = (register.written_read r g h.reads-register).1 in
-    let sound_s = (sheet.written_read t s h.reads-sheet).1 in
+    let sound_g = (register.written_read r g h.reads_register).1 in
+    let sound_s = (sheet.written_read t s h.reads_sheet).1 in
     let again : read_register c.register ≡ some (next g s) =
-    ap (λ (k : Closing). read_register k.register) q.3 ∙ next-read g s sound_g sound_s h.follows h.few in
+    ap (λ (k : Closing). read_register k.register) q.3 ∙ next_read g s sound_g sound_s h.follows h.few in
     let epoch = h.follows in
-    simp (again, h.reads-sheet, ne_eqb s.epoch (g.snapshot + 1 + 1) (λ e. absurd (omega arith)))
+    simp (again, h.reads_sheet, ne_eqb s.epoch (g.snapshot + 1 + 1) (λ e. absurd (omega arith)))
 
 -- NO EPOCH FOLLOWS SNAPSHOT 4,294,967,295: every sheet is refused with 4
-pub none-follows : (r t : Bytes) (n m : ℕ) (g : Register) (s : Sheet) → read_register r ≡ some g → read_sheet t ≡ some s → g.snapshot ≡ 4294967295
+pub none_follows : (r t : Bytes) (n m : ℕ) (g : Register) (s : Sheet) → read_register r ≡ some g → read_sheet t ≡ some s → g.snapshot ≡ 4294967295
     → close_outcome r t n m ≡ refused 4
 unfolding close_outcome close_sheet
-none-follows r t n m g s p q e =
+none_follows r t n m g s p q e =
     let k = sheet.sound_sheet→ s (sheet.written_read t s q).1 in
     simp (p, q, ne_eqb s.epoch (g.snapshot + 1) (λ c. absurd (omega (arith, k.epoch))))

@@ -13,7 +13,7 @@ use Rattle.rules.specs.Sheet.{WriteSet, Sheet, csn_of, sets_of, sound_sheet}
 use Rattle.rules.specs.Gathering.{same_record, same_records, same_set, some_two, clash, put_set, distinct}
 use Rattle.laws.specs.Tests.{left, right, both}
 use Rattle.laws.specs.ListLaws.{Sub, any→, →any, keep→, →keep}
-use Rattle.laws.specs.Rising.{Rising, nil, cons, ascend→, rising_le, rising-keep}
+use Rattle.laws.specs.Rising.{Rising, nil, cons, ascend→, rising_le, rising_keep}
 
 same_record→ : (a b : Record) → same_record a b ≡ true → a ≡ b
 unfolding same_record
@@ -41,16 +41,16 @@ same_set→ v w e =
     }
 
 module _ {A : Type 0} (r : A → A → Bool) where
-  pub some_two-in : {x y : A} {xs : List A} → Memᴰ x xs → Memᴰ y xs → r x y ≡ true → some_two r xs ≡ true
+  pub some_two_in : {x y : A} {xs : List A} → Memᴰ x xs → Memᴰ y xs → r x y ≡ true → some_two r xs ≡ true
   unfolding some_two
-  some_two-in {x} {y} {xs} m k e = →any (λ z. any (r z) xs) m (→any (r x) k e)
+  some_two_in {x} {y} {xs} m k e = →any (λ z. any (r z) xs) m (→any (r x) k e)
 
-  pub some_two-sub : {xs ys : List A} → Sub xs ys → some_two r xs ≡ true → some_two r ys ≡ true
+  pub some_two_sub : {xs ys : List A} → Sub xs ys → some_two r xs ≡ true → some_two r ys ≡ true
   unfolding some_two
-  some_two-sub {xs} {ys} s e =
+  some_two_sub {xs} {ys} s e =
       let p = any→ (λ z. any (r z) xs) xs e in
       let q = any→ (r p.0) xs p.2 in
-      some_two-in (s _ p.1) (s _ q.1) q.2
+      some_two_in (s _ p.1) (s _ q.1) q.2
 
 -- no two different sets of one commit number
 abbrev pub Apart : List WriteSet → Type 0
@@ -62,7 +62,7 @@ apart ws e v w m k c = go (same_set v w) refl
   where
     go : (t : Bool) → same_set v w ≡ t → v ≡ w
     go true p = same_set→ v w p
-    go false p = absurd (false≢true (sym e ∙ some_two-in clash m k (both (eq-eqb _ _ c) (ap not p))))
+    go false p = absurd (false≢true (sym e ∙ some_two_in clash m k (both (eq-eqb _ _ c) (ap not p))))
 
 -- how two numbers stand to each other
 pub data Tri (m n : ℕ) : Type 0 where
@@ -79,48 +79,48 @@ tri m n = go (ltb m n) refl (ltb n m) refl
     go false p false q = let a = ltb-false m n p in let b = ltb-false n m q in equal (omega arith)
 
 module _ (v u : WriteSet) (us : List WriteSet) where
-  pub put-less : v.csn < u.csn → put_set v (u ∷ us) ≡ v ∷ u ∷ us
+  pub put_less : v.csn < u.csn → put_set v (u ∷ us) ≡ v ∷ u ∷ us
   unfolding put_set
-  put-less h = simp (lt-ltb _ _ h)
+  put_less h = simp (lt-ltb _ _ h)
 
-  pub put-more : u.csn < v.csn → put_set v (u ∷ us) ≡ u ∷ put_set v us
+  pub put_more : u.csn < v.csn → put_set v (u ∷ us) ≡ u ∷ put_set v us
   unfolding put_set
-  put-more h = simp (lt-ltb u.csn v.csn h, le-ltb v.csn u.csn (omega arith))
+  put_more h = simp (lt-ltb u.csn v.csn h, le-ltb v.csn u.csn (omega arith))
 
-  pub put-equal : v.csn ≡ u.csn → put_set v (u ∷ us) ≡ u ∷ us
+  pub put_equal : v.csn ≡ u.csn → put_set v (u ∷ us) ≡ u ∷ us
   unfolding put_set
-  put-equal h = simp (le-ltb u.csn v.csn (omega arith), le-ltb v.csn u.csn (omega arith))
+  put_equal h = simp (le-ltb u.csn v.csn (omega arith), le-ltb v.csn u.csn (omega arith))
 
 put→ : (v : WriteSet) (us : List WriteSet) {w : WriteSet} → Memᴰ w (put_set v us) → (w ≡ v) ⊎ Memᴰ w us
 unfolding put_set
 put→ v [] m = Memᴰ.cases_cons m
 put→ v (u ∷ us) m =
     elim (tri v.csn u.csn) [
-      | less h ↦ Memᴰ.cases_cons (rw (put-less v u us h) at m)
+      | less h ↦ Memᴰ.cases_cons (rw (put_less v u us h) at m)
       | more h ↦
           ⊎_elim (λ e. inr (Memᴰ.head e)) (λ k. ⊎_elim inl (λ q. inr (Memᴰ.tail q)) (put→ v us k))
-          (Memᴰ.cases_cons (rw (put-more v u us h) at m))
-      | equal h ↦ inr (rw (put-equal v u us h) at m)
+          (Memᴰ.cases_cons (rw (put_more v u us h) at m))
+      | equal h ↦ inr (rw (put_equal v u us h) at m)
     ]
 
 put_keeps : (v : WriteSet) (us : List WriteSet) {w : WriteSet} → Memᴰ w us → Memᴰ w (put_set v us)
 put_keeps v [] m = absurd (Memᴰ.not-nil m)
 put_keeps v (u ∷ us) m =
     elim (tri v.csn u.csn) [
-      | less h ↦ rw (put-less v u us h) (Memᴰ.tail m)
+      | less h ↦ rw (put_less v u us h) (Memᴰ.tail m)
       | more h ↦
-          rw (put-more v u us h) (⊎_elim (λ e. Memᴰ.head e) (λ k. Memᴰ.tail (put_keeps v us k)) (Memᴰ.cases_cons m))
-      | equal h ↦ rw (put-equal v u us h) m
+          rw (put_more v u us h) (⊎_elim (λ e. Memᴰ.head e) (λ k. Memᴰ.tail (put_keeps v us k)) (Memᴰ.cases_cons m))
+      | equal h ↦ rw (put_equal v u us h) m
     ]
 
-put-here : (v : WriteSet) (us : List WriteSet) → (w : WriteSet) × Memᴰ w (put_set v us) × (w.csn ≡ v.csn)
+put_here : (v : WriteSet) (us : List WriteSet) → (w : WriteSet) × Memᴰ w (put_set v us) × (w.csn ≡ v.csn)
 unfolding put_set
-put-here v [] = (v, Memᴰ.head refl, refl)
-put-here v (u ∷ us) =
+put_here v [] = (v, Memᴰ.head refl, refl)
+put_here v (u ∷ us) =
     elim (tri v.csn u.csn) [
-      | less h ↦ (v, rw (put-less v u us h) (Memᴰ.head refl), refl)
-      | more h ↦ let r = put-here v us in (r.0, rw (put-more v u us h) (Memᴰ.tail r.1), r.2)
-      | equal h ↦ (u, rw (put-equal v u us h) (Memᴰ.head refl), sym h)
+      | less h ↦ (v, rw (put_less v u us h) (Memᴰ.head refl), refl)
+      | more h ↦ let r = put_here v us in (r.0, rw (put_more v u us h) (Memᴰ.tail r.1), r.2)
+      | equal h ↦ (u, rw (put_equal v u us h) (Memᴰ.head refl), sym h)
     ]
 
 pub distinct→ : (ws : List WriteSet) {w : WriteSet} → Memᴰ w (distinct ws) → Memᴰ w ws
@@ -128,16 +128,16 @@ unfolding distinct
 distinct→ [] m = m
 distinct→ (v ∷ vs) m = ⊎_elim (λ e. Memᴰ.head e) (λ k. Memᴰ.tail (distinct→ vs k)) (put→ v (distinct vs) m)
 
-distinct-here : (ws : List WriteSet) {w : WriteSet} → Memᴰ w ws → (v : WriteSet) × Memᴰ v (distinct ws) × (v.csn ≡ w.csn)
+distinct_here : (ws : List WriteSet) {w : WriteSet} → Memᴰ w ws → (v : WriteSet) × Memᴰ v (distinct ws) × (v.csn ≡ w.csn)
 unfolding distinct
-distinct-here [] m = absurd (Memᴰ.not-nil m)
-distinct-here (v ∷ vs) {w} m =
-    ⊎_elim (λ e. let r = put-here v (distinct vs) in (r.0, r.1, r.2 ∙ ap (λ (x : WriteSet). x.csn) (sym e)))
-    (λ k. let r = distinct-here vs k in (r.0, put_keeps v (distinct vs) r.1, r.2))
+distinct_here [] m = absurd (Memᴰ.not-nil m)
+distinct_here (v ∷ vs) {w} m =
+    ⊎_elim (λ e. let r = put_here v (distinct vs) in (r.0, r.1, r.2 ∙ ap (λ (x : WriteSet). x.csn) (sym e)))
+    (λ k. let r = distinct_here vs k in (r.0, put_keeps v (distinct vs) r.1, r.2))
     (Memᴰ.cases_cons m)
 
 pub →distinct : (ws : List WriteSet) {w : WriteSet} → Apart ws → Memᴰ w ws → Memᴰ w (distinct ws)
-→distinct ws {w} a m = let r = distinct-here ws m in Memᴰ.cast (sym (a r.0 w (distinct→ ws r.1) m r.2)) r.1
+→distinct ws {w} a m = let r = distinct_here ws m in Memᴰ.cast (sym (a r.0 w (distinct→ ws r.1) m r.2)) r.1
 
 -- each set's csn is below all later ones'
 abbrev pub Sorted : List WriteSet → Type 0
@@ -146,34 +146,34 @@ Sorted = Rising csn_of
 below_eq : (v : WriteSet) {u x : WriteSet} → x ≡ u → v.csn < u.csn → v.csn < x.csn
 below_eq v e h = let c = ap (λ (x : WriteSet). x.csn) e in omega arith
 
-below-trans : (v u x : WriteSet) → v.csn < u.csn → u.csn < x.csn → v.csn < x.csn
-below-trans v u x h k = omega arith
+below_trans : (v u x : WriteSet) → v.csn < u.csn → u.csn < x.csn → v.csn < x.csn
+below_trans v u x h k = omega arith
 
-put-sorted : (v : WriteSet) {us : List WriteSet} → Sorted us → Sorted (put_set v us)
+put_sorted : (v : WriteSet) {us : List WriteSet} → Sorted us → Sorted (put_set v us)
 unfolding put_set
-put-sorted v nil = cons (λ x m. absurd (Memᴰ.not-nil m)) nil
-put-sorted v (cons {x = u} {xs = us} f s) =
+put_sorted v nil = cons (λ x m. absurd (Memᴰ.not-nil m)) nil
+put_sorted v (cons {x = u} {xs = us} f s) =
     elim (tri v.csn u.csn) [
       | less h ↦
-          rw (put-less v u us h)
-          (cons (λ x m. ⊎_elim (λ e. below_eq v e h) (λ k. below-trans v u x h (f x k)) (Memᴰ.cases_cons m)) (cons f s))
-      | more h ↦ rw (put-more v u us h) (cons (λ x m. ⊎_elim (λ e. below_eq u e h) (λ k. f x k) (put→ v us m)) (put-sorted v s))
-      | equal h ↦ rw (put-equal v u us h) (cons f s)
+          rw (put_less v u us h)
+          (cons (λ x m. ⊎_elim (λ e. below_eq v e h) (λ k. below_trans v u x h (f x k)) (Memᴰ.cases_cons m)) (cons f s))
+      | more h ↦ rw (put_more v u us h) (cons (λ x m. ⊎_elim (λ e. below_eq u e h) (λ k. f x k) (put→ v us m)) (put_sorted v s))
+      | equal h ↦ rw (put_equal v u us h) (cons f s)
     ]
 
 pub sorted : (ws : List WriteSet) → Sorted (distinct ws)
 unfolding distinct
 sorted [] = nil
-sorted (w ∷ ws) = put-sorted w (sorted ws)
+sorted (w ∷ ws) = put_sorted w (sorted ws)
 
 -- the sets of a sound sheet are sorted
-pub sheet-sorted : (s : Sheet) → sound_sheet s ≡ true → Sorted s.sets
+pub sheet_sorted : (s : Sheet) → sound_sheet s ≡ true → Sorted s.sets
 unfolding sound_sheet
-sheet-sorted s e = ascend→ csn_of s.sets (left _ _ (right _ _ (right _ _ (right _ _ (right _ _ (right _ _ (right _ _ (right _ _ e))))))))
+sheet_sorted s e = ascend→ csn_of s.sets (left _ _ (right _ _ (right _ _ (right _ _ (right _ _ (right _ _ (right _ _ (right _ _ e))))))))
 
 -- fewer sets have no more of a master's
-pub sets_of-le : (m : ℕ) {xs ys : List WriteSet} → Sorted xs → Sorted ys → Sub xs ys → sets_of m xs ≤ sets_of m ys
+pub sets_of_le : (m : ℕ) {xs ys : List WriteSet} → Sorted xs → Sorted ys → Sub xs ys → sets_of m xs ≤ sets_of m ys
 unfolding sets_of count
-sets_of-le m {xs} {ys} p q s =
+sets_of_le m {xs} {ys} p q s =
     let t : WriteSet → Bool = λ w. eqb (master_of w.csn) m in
-    rising_le csn_of (rising-keep csn_of t p) (rising-keep csn_of t q) (λ x k. let r = keep→ t xs k in →keep t (s x r.0) r.1)
+    rising_le csn_of (rising_keep csn_of t p) (rising_keep csn_of t q) (λ x k. let r = keep→ t xs k in →keep t (s x r.0) r.1)

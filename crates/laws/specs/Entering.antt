@@ -20,13 +20,13 @@ use Rattle.rules.specs.Sheet.{max_records, record_key, is_kind, sound_value, sou
 use Rattle.rules.specs.Tag.{right_tag, is_key, is_tag, key_in, key_of_tag}
 use Rattle.rules.specs.OpenSet.{sound_open, is_open_set, read_open, open_records, has_key, put_record}
 use Rattle.rules.specs.Refused.{refused, done, record_of, enter_outcome}
-use Rattle.laws.specs.Tests.{right, both, not-true-false}
+use Rattle.laws.specs.Tests.{right, both, not_true_false}
 use Rattle.laws.specs.Says.{clash}
 use Rattle.laws.specs.ListLaws.{Sub, any→, →any, →all, all→}
 use Rattle.laws.specs.Rising.{Rising, nil, cons, Above, rising→, →rising}
-use Rattle.laws.specs.NotRefused.{passed, done-same}
-use Rattle.laws.specs.Tags.{key-is, tag_is}
-use Rattle.laws.specs.OpenSets.{open-says, open_is, open-written}
+use Rattle.laws.specs.NotRefused.{passed, done_same}
+use Rattle.laws.specs.Tags.{key_is, tag_is}
+use Rattle.laws.specs.OpenSets.{open_says, open_is, open_written}
 
 -- ---- a record among records in key order
 
@@ -59,20 +59,20 @@ module _ (r : Record) where
       go true f = later m
       go false f = ⊎_elim (λ e. here e) (λ k. later (f k)) (Memᴰ.cases_cons m)
 
-  pub put-length : (rs : List Record) → length (put_record r rs) ≡ suc (length rs)
+  pub put_length : (rs : List Record) → length (put_record r rs) ≡ suc (length rs)
   unfolding put_record
-  put-length [] = refl
-  put-length (y ∷ ys) = go (ltb r.key y.key) (put-length ys)
+  put_length [] = refl
+  put_length (y ∷ ys) = go (ltb r.key y.key) (put_length ys)
     where
       go : (t : Bool) → length (put_record r ys) ≡ suc (length ys) → length (if t then r ∷ y ∷ ys else y ∷ put_record r ys) ≡ suc (suc (length ys))
       go true k = refl
       go false k = ap suc k
 
   -- in key order, where no record has the key
-  pub put-rises : {rs : List Record} → Rising record_key rs → ((x : Record) → Memᴰ x rs → x.key ≡ r.key → ⊥) → Rising record_key (put_record r rs)
+  pub put_rises : {rs : List Record} → Rising record_key rs → ((x : Record) → Memᴰ x rs → x.key ≡ r.key → ⊥) → Rising record_key (put_record r rs)
   unfolding put_record
-  put-rises nil n = cons (λ y m. absurd (Memᴰ.not-nil m)) nil
-  put-rises (cons {x = y} {xs = ys} g q) n = go (ltb r.key y.key) refl (put-rises q (λ x m. n x (later m)))
+  put_rises nil n = cons (λ y m. absurd (Memᴰ.not-nil m)) nil
+  put_rises (cons {x = y} {xs = ys} g q) n = go (ltb r.key y.key) refl (put_rises q (λ x m. n x (later m)))
     where
       first : r.key < y.key → (z : Record) → Memᴰ z (y ∷ ys) → r.key < z.key
       first h z m = ⊎_elim (λ e. let c = ap record_key e in omega arith) (λ k. let c = g z k in omega arith) (Memᴰ.cases_cons m)
@@ -89,32 +89,32 @@ pub no_key : (k : ℕ) (rs : List Record) → has_key k rs ≡ false → (x : Re
 unfolding has_key
 no_key k rs h x m e = clash (→any (λ r. eqb r.key k) m (eq-eqb x.key k e)) h
 
-pub no-key-of : (k : ℕ) (rs : List Record) → ((x : Record) → Memᴰ x rs → x.key ≡ k → ⊥) → has_key k rs ≡ false
+pub no_key_of : (k : ℕ) (rs : List Record) → ((x : Record) → Memᴰ x rs → x.key ≡ k → ⊥) → has_key k rs ≡ false
 unfolding has_key
-no-key-of k rs h = not-true-false (λ e. let w = any→ (λ r. eqb r.key k) rs e in h w.0 w.1 (eqb-true w.0.key k w.2))
+no_key_of k rs h = not_true_false (λ e. let w = any→ (λ r. eqb r.key k) rs e in h w.0 w.1 (eqb-true w.0.key k w.2))
 
 -- ---- sound records
 
 -- in key order from above 0
-pub open-rises : (rs : List Record) → sound_open rs ≡ true → Rising record_key rs × Above record_key 0 rs
-open-rises rs h = rising→ record_key 0 rs ((open-says rs).told h).1.0
+pub open_rises : (rs : List Record) → sound_open rs ≡ true → Rising record_key rs × Above record_key 0 rs
+open_rises rs h = rising→ record_key 0 rs ((open_says rs).told h).1.0
 
-sound-open : (rs : List Record) → length rs ≤ 8 → Rising record_key rs → Above record_key 0 rs → all sound_record rs ≡ true → sound_open rs ≡ true
-sound-open rs few q above s = (open-says rs).test (few, (→rising record_key 0 q above, s))
+sound_open_lem : (rs : List Record) → length rs ≤ 8 → Rising record_key rs → Above record_key 0 rs → all sound_record rs ≡ true → sound_open rs ≡ true
+sound_open_lem rs few q above s = (open_says rs).test (few, (→rising record_key 0 q above, s))
 
 -- a sound record more
-pub put-sound : (r : Record) (rs : List Record) → sound_open rs ≡ true → sound_record r ≡ true → 1 ≤ r.key → has_key r.key rs ≡ false → length rs < 8 → sound_open (put_record r rs) ≡ true
-put-sound r rs h s low n few =
-    let w = open-rises rs h in
-    let l = put-length r rs in
-    sound-open (put_record r rs) (omega arith) (put-rises r w.0 (no_key r.key rs n))
+pub put_sound : (r : Record) (rs : List Record) → sound_open rs ≡ true → sound_record r ≡ true → 1 ≤ r.key → has_key r.key rs ≡ false → length rs < 8 → sound_open (put_record r rs) ≡ true
+put_sound r rs h s low n few =
+    let w = open_rises rs h in
+    let l = put_length r rs in
+    sound_open_lem (put_record r rs) (omega arith) (put_rises r w.0 (no_key r.key rs n))
     (λ x m. ⊎_elim (λ e. let c = ap record_key e in omega arith) (λ k. w.1 x k) (put_only r rs m))
-    (→all sound_record (put_record r rs) (λ x m. ⊎_elim (λ e. ap sound_record e ∙ s) (λ k. all→ sound_record ((open-says rs).told h).1.1 k) (put_only r rs m)))
+    (→all sound_record (put_record r rs) (λ x m. ⊎_elim (λ e. ap sound_record e ∙ s) (λ k. all→ sound_record ((open_says rs).told h).1.1 k) (put_only r rs m)))
 
 -- what a clerk types is a sound record
-typed-sound : (kind key value : ℕ) → is_kind kind ≡ true → sound_value kind value ≡ true → is_key key ≡ true → sound_record (record_of kind key value) ≡ true
+typed_sound : (kind key value : ℕ) → is_kind kind ≡ true → sound_value kind value ≡ true → is_key key ≡ true → sound_record (record_of kind key value) ≡ true
 unfolding sound_record is_key
-typed-sound kind key value k v h = both k (both (right _ _ h) v)
+typed_sound kind key value k v h = both k (both (right _ _ h) v)
 
 -- ---- entering
 
@@ -127,7 +127,7 @@ pub record Enters (o : OpenSet) (kind : ℕ) (tag : Bytes) (value : ℕ) (after 
   pub is : read_open after ≡ some (put_record (record_of kind key value) held)
   pub new : (x : Record) → Memᴰ x held → x.key ≡ key → ⊥
   pub one_more : length (put_record (record_of kind key value) held) ≡ suc (length held)
-  pub has-it : Memᴰ (record_of kind key value) (put_record (record_of kind key value) held)
+  pub has_it : Memᴰ (record_of kind key value) (put_record (record_of kind key value) held)
   pub keeps : Sub held (put_record (record_of kind key value) held)
   pub only : (x : Record) → Memᴰ x (put_record (record_of kind key value) held) → (x ≡ record_of kind key value) ⊎ Memᴰ x held
 
@@ -149,21 +149,21 @@ enters o kind tag value after p =
     let p₄ = passed (leb max_records (length (open_records o))) 13 _ after p₃.1 in
     let well = none_of (is_open_set o) (is_kind kind) (sound_value kind value) p₁.0 in
     let tagged = tag_is tag (not-false _ p₂.0) in
-    let sound = typed-sound kind (key_in tag) value well.1 well.2 tagged.1 in
+    let sound = typed_sound kind (key_in tag) value well.1 well.2 tagged.1 in
     let w = open_is o well.0 in
     let r = record_of kind (key_in tag) value in
     let rs = open_records o in
     let few : length (open_records o) < 8 = leb-false max_records (length (open_records o)) p₄.0 in
-    let put = put-sound (record_of kind (key_in tag) value) (open_records o) w.1 sound ((key-is (key_in tag)).told tagged.1).0 p₃.0 few in
+    let put = put_sound (record_of kind (key_in tag) value) (open_records o) w.1 sound ((key_is (key_in tag)).told tagged.1).0 p₃.0 few in
     record {
       held = open_records o;
       key = key_in tag;
-      was = ap read_open w.0 ∙ open-written (open_records o) w.1;
+      was = ap read_open w.0 ∙ open_written (open_records o) w.1;
       tagged = tagged.0;
-      is = ap read_open (sym (done-same p₄.1)) ∙ open-written (put_record (record_of kind (key_in tag) value) (open_records o)) put;
+      is = ap read_open (sym (done_same p₄.1)) ∙ open_written (put_record (record_of kind (key_in tag) value) (open_records o)) put;
       new = no_key (key_in tag) (open_records o) p₃.0;
-      one_more = put-length (record_of kind (key_in tag) value) (open_records o);
-      has-it = put_has (record_of kind (key_in tag) value) (open_records o);
+      one_more = put_length (record_of kind (key_in tag) value) (open_records o);
+      has_it = put_has (record_of kind (key_in tag) value) (open_records o);
       keeps = put_keeps (record_of kind (key_in tag) value) (open_records o);
       only = λ x m. put_only (record_of kind (key_in tag) value) (open_records o) m;
     }
@@ -171,12 +171,12 @@ enters o kind tag value after p =
 -- ---- refused
 
 -- WHAT IS NO OPEN SET IS REFUSED WITH 3
-pub no-open-set : (o : OpenSet) (kind : ℕ) (tag : Bytes) (value : ℕ) → is_open_set o ≡ false → enter_outcome o kind tag value ≡ refused 3
+pub no_open_set : (o : OpenSet) (kind : ℕ) (tag : Bytes) (value : ℕ) → is_open_set o ≡ false → enter_outcome o kind tag value ≡ refused 3
 unfolding enter_outcome ◌or◌
-no-open-set o kind tag value h = simp h
+no_open_set o kind tag value h = simp h
 
 -- A TAG THAT IS NOT RIGHT IS REFUSED WITH 11, where open set, kind and value are well-formed
-pub wrong-tag : (o : OpenSet) (kind : ℕ) (tag : Bytes) (value : ℕ) → is_open_set o ≡ true → is_kind kind ≡ true → sound_value kind value ≡ true → right_tag tag ≡ false
+pub wrong_tag : (o : OpenSet) (kind : ℕ) (tag : Bytes) (value : ℕ) → is_open_set o ≡ true → is_kind kind ≡ true → sound_value kind value ≡ true → right_tag tag ≡ false
     → enter_outcome o kind tag value ≡ refused 11
 unfolding enter_outcome is_tag ◌or◌ ◌and◌
-wrong-tag o kind tag value h k v r = simp (h, k, v, r)
+wrong_tag o kind tag value h k v r = simp (h, k, v, r)

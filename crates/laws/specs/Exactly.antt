@@ -29,12 +29,12 @@ use Rattle.rules.specs.ReadCheck.{read_committed, repeatable_read, snapshot_isol
 use Rattle.rules.specs.Answers.{refusal_number}
 use Rattle.rules.specs.Refused.{Outcome, refused, done, sheet_room, register_room, verdict_room, max_reads, open_outcome, set_with, offered_set, offered_notice, offer_to, put_outcome, notice_outcome, join_sheets, join_outcome, closing, close_sheet, close_outcome, bad_check, check_reads, reads_outcome, check_outcome, record_of, enter_outcome, offer_outcome, tag_outcome}
 use Rattle.rules.specs.Applies.{Asked, to_open, to_put, to_notice, to_join, to_close, to_check, to_enter, to_offer, to_tag, bad_register, bad_sheet, bad_offer, wrong_epoch, wrong_roster, spoiled_there, owes, incomplete, too_many_rows, buffer_short, bad_entries, bad_read_check, bad_tag, key_entered, ninth_record, applies, turn_of, Foremost, NoneApplies, RefusedExactly}
-use Rattle.laws.specs.Tests.{same_tests, not-true-false}
+use Rattle.laws.specs.Tests.{same_tests, not_true_false}
 use Rattle.laws.specs.Says.{clash}
-use Rattle.laws.specs.ListLaws.{first→, first-none}
-use Rattle.laws.specs.Rising.{Rising, rising→, rising-one, rising-first}
-use Rattle.laws.specs.OpenSets.{offers-records, offered-records}
-use Rattle.laws.specs.NotRefused.{refused-not, done-same, refused-same, set_by}
+use Rattle.laws.specs.ListLaws.{first→, first_none}
+use Rattle.laws.specs.Rising.{Rising, rising→, rising_one, rising_first}
+use Rattle.laws.specs.OpenSets.{offers_records, offered_records_lem}
+use Rattle.laws.specs.NotRefused.{refused_not, done_same, refused_same, set_by}
 
 -- ---- the table, and the first of its rows that applies
 
@@ -53,25 +53,25 @@ by none a = done a
 by (some x) a = refused (refusal_number x)
 
 -- every refusal is in the table
-in-table : (x : Refusal) → Memᴰ x refusals
-in-table RegisterIllFormed = here refl
-in-table SheetIllFormed = later (here refl)
-in-table OfferIllFormed = later (later (here refl))
-in-table BadTag = later (later (later (here refl)))
-in-table KeyEntered = later (later (later (later (here refl))))
-in-table NinthRecord = later (later (later (later (later (here refl)))))
-in-table WrongEpoch = later (later (later (later (later (later (here refl))))))
-in-table WrongRoster = later (later (later (later (later (later (later (here refl)))))))
-in-table Spoiled = later (later (later (later (later (later (later (later (here refl))))))))
-in-table Incomplete = later (later (later (later (later (later (later (later (later (here refl)))))))))
-in-table TooManyRows = later (later (later (later (later (later (later (later (later (later (here refl))))))))))
-in-table BufferShort = later (later (later (later (later (later (later (later (later (later (later (here refl)))))))))))
-in-table CheckIllFormed = later (later (later (later (later (later (later (later (later (later (later (later (here refl))))))))))))
+in_table_lem : (x : Refusal) → Memᴰ x refusals
+in_table_lem RegisterIllFormed = here refl
+in_table_lem SheetIllFormed = later (here refl)
+in_table_lem OfferIllFormed = later (later (here refl))
+in_table_lem BadTag = later (later (later (here refl)))
+in_table_lem KeyEntered = later (later (later (later (here refl))))
+in_table_lem NinthRecord = later (later (later (later (later (here refl)))))
+in_table_lem WrongEpoch = later (later (later (later (later (later (here refl))))))
+in_table_lem WrongRoster = later (later (later (later (later (later (later (here refl)))))))
+in_table_lem Spoiled = later (later (later (later (later (later (later (later (here refl))))))))
+in_table_lem Incomplete = later (later (later (later (later (later (later (later (later (here refl)))))))))
+in_table_lem TooManyRows = later (later (later (later (later (later (later (later (later (later (here refl))))))))))
+in_table_lem BufferShort = later (later (later (later (later (later (later (later (later (later (later (here refl)))))))))))
+in_table_lem CheckIllFormed = later (later (later (later (later (later (later (later (later (later (later (later (here refl))))))))))))
 
 -- in which they ascend by their turns
-table-rises : Rising turn_of refusals
+table_rises : Rising turn_of refusals
 unfolding ascend_from ◌and◌
-table-rises = (rising→ turn_of 0 refusals refl).0
+table_rises = (rising→ turn_of 0 refusals refl).0
 
 -- document 01's refusals have the turns of their numbers, counted in tens
 tens : (x : Refusal) → refusal_number x ≤ 10 → turn_of x ≡ 10 * refusal_number x
@@ -90,51 +90,51 @@ tens KeyEntered h = absurd (omega arith)
 tens NinthRecord h = absurd (omega arith)
 
 -- OF DOCUMENT 01'S REFUSALS THE SMALLER IS GIVEN BEFORE THE LARGER
-pub smaller-first : (x y : Refusal) → refusal_number x ≤ 10 → refusal_number y ≤ 10 → refusal_number x < refusal_number y → turn_of x < turn_of y
-smaller-first x y h k l = omega (arith, tens x h, tens y k)
+pub smaller_first : (x y : Refusal) → refusal_number x ≤ 10 → refusal_number y ≤ 10 → refusal_number x < refusal_number y → turn_of x < turn_of y
+smaller_first x y h k l = omega (arith, tens x h, tens y k)
 
-not-both : {m n : ℕ} → m ≤ n → n < m → ⊥
-not-both h k = omega arith
+not_both : {m n : ℕ} → m ≤ n → n < m → ⊥
+not_both h k = omega arith
 
 -- the first of the table that applies is the foremost that does
 pub foremost : (q : Asked) (x : Refusal) → first_for q ≡ some x → Foremost q x
 unfolding first_for
 foremost q x e = record {
-  it-applies = (first→ (λ y. applies y q) refusals e).1;
-  none_before = λ y l. not-true-false (λ t. not-both (rising-first turn_of (λ z. applies z q) table-rises e (in-table y) t) l);
+  it_applies = (first→ (λ y. applies y q) refusals e).1;
+  none_before = λ y l. not_true_false (λ t. not_both (rising_first turn_of (λ z. applies z q) table_rises e (in_table_lem y) t) l);
 }
 
 -- where there is none, none applies
-pub none-applies : (q : Asked) → first_for q ≡ none → NoneApplies q
+pub none_applies : (q : Asked) → first_for q ≡ none → NoneApplies q
 unfolding first_for
-none-applies q e x = first-none (λ y. applies y q) refusals e x (in-table x)
+none_applies q e x = first_none (λ y. applies y q) refusals e x (in_table_lem x)
 
 -- two that are foremost have one number
-one-foremost : (q : Asked) (x y : Refusal) → Foremost q x → Foremost q y → refusal_number x ≡ refusal_number y
-one-foremost q x y a b =
-    ap refusal_number (rising-one turn_of table-rises (in-table x) (in-table y) (go (λ l. clash a.it-applies (b.none_before x l)) (λ l. clash b.it-applies (a.none_before y l))))
+one_foremost : (q : Asked) (x y : Refusal) → Foremost q x → Foremost q y → refusal_number x ≡ refusal_number y
+one_foremost q x y a b =
+    ap refusal_number (rising_one turn_of table_rises (in_table_lem x) (in_table_lem y) (go (λ l. clash a.it_applies (b.none_before x l)) (λ l. clash b.it_applies (a.none_before y l))))
   where
     go : (turn_of x < turn_of y → ⊥) → (turn_of y < turn_of x → ⊥) → turn_of x ≡ turn_of y
     go h k = omega arith
 
 module _ {A : Type 0} (q : Asked) (o : Outcome A) (a : A) where
   -- AN OUTCOME BY THE FIRST THAT APPLIES IS REFUSED EXACTLY WHEN THE TABLE SAYS
-  pub exactly-by : o ≡ by (first_for q) a → RefusedExactly q o a
+  pub exactly_by : o ≡ by (first_for q) a → RefusedExactly q o a
   unfolding by
-  exactly-by p = go (first_for q) refl p
+  exactly_by p = go (first_for q) refl p
     where
       go : (f : Option Refusal) → first_for q ≡ f → o ≡ by f a → RefusedExactly q o a
       go none e p = record {
-        refused-when = λ x s. absurd (clash s.it-applies (none-applies q e x));
-        only-when = λ n r. absurd (refused-not (sym r ∙ p));
-        else-done = λ h. p;
-        only-else = λ b r. (none-applies q e, done-same (sym r ∙ p));
+        refused_when = λ x s. absurd (clash s.it_applies (none_applies q e x));
+        only_when = λ n r. absurd (refused_not (sym r ∙ p));
+        else_done = λ h. p;
+        only_else = λ b r. (none_applies q e, done_same (sym r ∙ p));
       }
       go (some x) e p = record {
-        refused-when = λ y s. p ∙ ap refused (one-foremost q x y (foremost q x e) s);
-        only-when = λ n r. (x, refused-same (sym r ∙ p), foremost q x e);
-        else-done = λ h. absurd (clash (foremost q x e).it-applies (h x));
-        only-else = λ b r. absurd (refused-not (sym p ∙ r));
+        refused_when = λ y s. p ∙ ap refused (one_foremost q x y (foremost q x e) s);
+        only_when = λ n r. (x, refused_same (sym r ∙ p), foremost q x e);
+        else_done = λ h. absurd (clash (foremost q x e).it_applies (h x));
+        only_else = λ b r. absurd (refused_not (sym p ∙ r));
       }
 
 module _ {A : Type 0} where
@@ -157,15 +157,15 @@ run_table = tt
 -- ---- open
 
 -- OPEN IS REFUSED EXACTLY WHEN THE TABLE SAYS
-pub open-exactly : (e r room : ℕ) → RefusedExactly (to_open e r room) (open_outcome e r room) (sheet_bytes (empty_sheet e r))
+pub open_exactly : (e r room : ℕ) → RefusedExactly (to_open e r room) (open_outcome e r room) (sheet_bytes (empty_sheet e r))
 unfolding run_table open_outcome
-open-exactly e r room =
-    exactly-by (to_open e r room) _ _ (row (eqb e 0) WrongEpoch _ _ (row (eqb r 0) WrongRoster _ _ (row (ltb room sheet_room) BufferShort _ _ (end _))))
+open_exactly e r room =
+    exactly_by (to_open e r room) _ _ (row (eqb e 0) WrongEpoch _ _ (row (eqb r 0) WrongRoster _ _ (row (ltb room sheet_room) BufferShort _ _ (end _))))
 
 -- ---- put and notice
 
 -- an offer to a sheet: t that the bytes are a sheet, u that the offer is ill-formed
-offer-by : (t u : Bool) (s : Sheet) (o : Offer) (e m room : ℕ)
+offer_by : (t u : Bool) (s : Sheet) (o : Offer) (e m room : ℕ)
     → offer_to (if t then some s else none) (if u then none else some o) e m room
     ≡ by
     (if not t then some SheetIllFormed else
@@ -176,16 +176,16 @@ offer-by : (t u : Bool) (s : Sheet) (o : Offer) (e m room : ℕ)
     none)
     (sheet_bytes (with_offer s o))
 unfolding offer_to by
-offer-by false u s o e m room = refl
-offer-by true true s o e m room = refl
-offer-by true false s o e m room = row (not (eqb e s.epoch)) WrongEpoch _ _ (row (not (in_roster s.roster m)) WrongRoster _ _ (row (ltb room sheet_room) BufferShort _ _ (end _)))
+offer_by false u s o e m room = refl
+offer_by true true s o e m room = refl
+offer_by true false s o e m room = row (not (eqb e s.epoch)) WrongEpoch _ _ (row (not (in_roster s.roster m)) WrongRoster _ _ (row (ltb room sheet_room) BufferShort _ _ (end _)))
 
 -- one test passes where the other fails
 record Opposite (good bad : Bool) : Type 0 where
   turns : good ≡ not bad
 
-not-zero : (n : ℕ) → Opposite (leb 1 n) (eqb n 0)
-not-zero n = record { turns = same_tests (leb 1 n) (not (eqb n 0)) to (λ p. of (eqb-false n 0 (not-true _ p))) }
+not_zero : (n : ℕ) → Opposite (leb 1 n) (eqb n 0)
+not_zero n = record { turns = same_tests (leb 1 n) (not (eqb n 0)) to (λ p. of (eqb-false n 0 (not-true _ p))) }
   where
     to : leb 1 n ≡ true → not (eqb n 0) ≡ true
     to p = ap not (ne_eqb n 0 (λ q. absurd (omega (arith, leb-true 1 n p))))
@@ -193,14 +193,14 @@ not-zero n = record { turns = same_tests (leb 1 n) (not (eqb n 0)) to (λ p. of 
     of : (n ≡ 0 → ⊥) → leb 1 n ≡ true
     of h = le-leb 1 n (omega arith)
 
-not-above : (a b : ℕ) → Opposite (leb a b) (ltb b a)
-not-above a b = record {
+not_above : (a b : ℕ) → Opposite (leb a b) (ltb b a)
+not_above a b = record {
   turns = same_tests (leb a b) (not (ltb b a)) (λ p. ap not (le-ltb b a (leb-true a b p))) (λ p. le-leb a b (ltb-false b a (not-true _ p)));
 }
 
-not-not : (t : Bool) → Opposite t (not t)
-not-not true = record { turns = refl }
-not-not false = record { turns = refl }
+not_not : (t : Bool) → Opposite t (not t)
+not_not true = record { turns = refl }
+not_not false = record { turns = refl }
 
 not_itself : (t : Bool) → Opposite (not t) t
 not_itself t = record { turns = refl }
@@ -237,34 +237,34 @@ set_if_lem e sen csn rs c = go c (leb 1 e) refl (leb sen e) refl
     go false false p y q = simp p
 
 -- the offered set, by what makes it ill-formed
-set-by : (e sen csn : ℕ) (b : Bytes)
+set_by_lem : (e sen csn : ℕ) (b : Bytes)
     → offered_set e sen csn b ≡ (if eqb e 0 or ltb e sen or not (are_records b) then none else some (a_set (set_by csn sen (offered_records b))))
 unfolding offered_set read_records are_records read
-set-by e sen csn b =
-    set_if_lem e sen csn (offered_records b) (are_records b) ∙ offered (a_set (set_by csn sen (offered_records b))) (neither (not-zero e) (neither (not-above sen e) (not-not (are_records b))))
+set_by_lem e sen csn b =
+    set_if_lem e sen csn (offered_records b) (are_records b) ∙ offered (a_set (set_by csn sen (offered_records b))) (neither (not_zero e) (neither (not_above sen e) (not_not (are_records b))))
 
 -- the offered notice, by what makes it ill-formed
-notice-by : (e m n : ℕ) → offered_notice e m n ≡ (if eqb e 0 or ltb 15 m or ltb max_sets n then none else some (a_notice (record { master = m; number = n })))
+notice_by_lem : (e m n : ℕ) → offered_notice e m n ≡ (if eqb e 0 or ltb 15 m or ltb max_sets n then none else some (a_notice (record { master = m; number = n })))
 unfolding offered_notice
-notice-by e m n = offered (a_notice (record { master = m; number = n })) (neither (not-zero e) (neither (not-above m 15) (not-above n max_sets)))
+notice_by_lem e m n = offered (a_notice (record { master = m; number = n })) (neither (not_zero e) (neither (not_above m 15) (not_above n max_sets)))
 
 -- THE SAME OF PUT
-pub put-exactly : (s : Bytes) (e sen csn : ℕ) (b : Bytes) (room : ℕ)
+pub put_exactly : (s : Bytes) (e sen csn : ℕ) (b : Bytes) (room : ℕ)
     → RefusedExactly (to_put s e sen csn b room) (put_outcome s e sen csn b room) (sheet_bytes (with_offer (sheet_in s) (a_set (set_by csn sen (offered_records b)))))
 unfolding run_table put_outcome read_sheet is_sheet read
-put-exactly s e sen csn b room =
-    exactly-by (to_put s e sen csn b room) _ _
-    (ap (λ (o : Option Offer). offer_to (read_sheet s) o e (master_of csn) room) (set-by e sen csn b)
-    ∙ offer-by (is_sheet s) (eqb e 0 or ltb e sen or not (are_records b)) (sheet_in s) (a_set (set_by csn sen (offered_records b))) e (master_of csn) room)
+put_exactly s e sen csn b room =
+    exactly_by (to_put s e sen csn b room) _ _
+    (ap (λ (o : Option Offer). offer_to (read_sheet s) o e (master_of csn) room) (set_by_lem e sen csn b)
+    ∙ offer_by (is_sheet s) (eqb e 0 or ltb e sen or not (are_records b)) (sheet_in s) (a_set (set_by csn sen (offered_records b))) e (master_of csn) room)
 
 -- OF NOTICE
-pub notice-exactly : (s : Bytes) (e m n room : ℕ)
+pub notice_exactly : (s : Bytes) (e m n room : ℕ)
     → RefusedExactly (to_notice s e m n room) (notice_outcome s e m n room) (sheet_bytes (with_offer (sheet_in s) (a_notice (record { master = m; number = n }))))
 unfolding run_table notice_outcome read_sheet is_sheet read
-notice-exactly s e m n room =
-    exactly-by (to_notice s e m n room) _ _
-    (ap (λ (o : Option Offer). offer_to (read_sheet s) o e m room) (notice-by e m n)
-    ∙ offer-by (is_sheet s) (eqb e 0 or ltb 15 m or ltb max_sets n) (sheet_in s) (a_notice (record { master = m; number = n })) e m room)
+notice_exactly s e m n room =
+    exactly_by (to_notice s e m n room) _ _
+    (ap (λ (o : Option Offer). offer_to (read_sheet s) o e m room) (notice_by_lem e m n)
+    ∙ offer_by (is_sheet s) (eqb e 0 or ltb 15 m or ltb max_sets n) (sheet_in s) (a_notice (record { master = m; number = n })) e m room)
 
 -- ---- join
 
@@ -285,38 +285,38 @@ join_by true true a b room =
     row (not (eqb a.epoch b.epoch)) WrongEpoch _ _ (row (not (eqb a.roster b.roster)) WrongRoster _ _ (row (ltb room sheet_room) BufferShort _ _ (end _)))
 
 -- OF JOIN
-pub join-exactly : (a b : Bytes) (room : ℕ) → RefusedExactly (to_join a b room) (join_outcome a b room) (sheet_bytes (joined (sheet_in a) (sheet_in b)))
+pub join_exactly : (a b : Bytes) (room : ℕ) → RefusedExactly (to_join a b room) (join_outcome a b room) (sheet_bytes (joined (sheet_in a) (sheet_in b)))
 unfolding run_table join_outcome read_sheet is_sheet read
-join-exactly a b room = exactly-by (to_join a b room) _ _ (join_by (is_sheet a) (is_sheet b) (sheet_in a) (sheet_in b) room)
+join_exactly a b room = exactly_by (to_join a b room) _ _ (join_by (is_sheet a) (is_sheet b) (sheet_in a) (sheet_in b) room)
 
 -- ---- close
 
 -- one passes, where not all pass the opposite
-some-not : {A : Type 0} (p q : A → Bool) → ((x : A) → q x ≡ not (p x)) → (xs : List A) → not (all q xs) ≡ any p xs
+some_not : {A : Type 0} (p q : A → Bool) → ((x : A) → q x ≡ not (p x)) → (xs : List A) → not (all q xs) ≡ any p xs
 unfolding all any ◌and◌ ◌or◌
-some-not p q h [] = refl
-some-not p q h (x ∷ xs) = go (p x) (h x) (some-not p q h xs)
+some_not p q h [] = refl
+some_not p q h (x ∷ xs) = go (p x) (h x) (some_not p q h xs)
   where
     go : (t : Bool) → q x ≡ not t → not (all q xs) ≡ any p xs → not (q x and all q xs) ≡ t or any p xs
     go true e k = simp e
     go false e k = simp e k
 
 -- a master that has sent what it said does not owe
-not-owing : (s : Sheet) (m : ℕ) → Opposite (sent s m) (owes s m)
+not_owing : (s : Sheet) (m : ℕ) → Opposite (sent s m) (owes s m)
 unfolding sent owes
-not-owing s m = neither (not_itself (eqb (get_or s.notices m no_notice) no_notice)) (not-above (get_or s.notices m no_notice) (sets_of m s.sets))
+not_owing s m = neither (not_itself (eqb (get_or s.notices m no_notice) no_notice)) (not_above (get_or s.notices m no_notice) (sets_of m s.sets))
 
 -- a sheet is not complete where a roster master owes
 owing : (s : Sheet) → not (complete s) ≡ any (λ m. in_roster s.roster m and owes s m) masters
 unfolding complete ◌and◌ ◌or◌
-owing s = some-not (λ m. in_roster s.roster m and owes s m) (λ m. not (in_roster s.roster m) or sent s m) (λ m. go (in_roster s.roster m) m) masters
+owing s = some_not (λ m. in_roster s.roster m and owes s m) (λ m. not (in_roster s.roster m) or sent s m) (λ m. go (in_roster s.roster m) m) masters
   where
     go : (t : Bool) (m : ℕ) → not t or sent s m ≡ not (t and owes s m)
-    go true m = (not-owing s m).turns
+    go true m = (not_owing s m).turns
     go false m = refl
 
 -- of a register and a sheet: t that the first bytes are a register, u that the second are a sheet
-close-by : (t u : Bool) (g : Register) (s : Sheet) (n m : ℕ)
+close_by : (t u : Bool) (g : Register) (s : Sheet) (n m : ℕ)
     → close_sheet (if t then some g else none) (if u then some s else none) n m
     ≡ by
     (if not t then some RegisterIllFormed else
@@ -329,9 +329,9 @@ close-by : (t u : Bool) (g : Register) (s : Sheet) (n m : ℕ)
     none)
     (closing g s)
 unfolding close_sheet next by
-close-by false u g s n m = refl
-close-by true false g s n m = refl
-close-by true true g s n m =
+close_by false u g s n m = refl
+close_by true false g s n m = refl
+close_by true true g s n m =
     rw⁻¹ (owing s)
     (row (not (eqb s.epoch (g.snapshot + 1))) WrongEpoch _ _
     (row s.spoiled Spoiled _ _
@@ -340,9 +340,9 @@ close-by true true g s n m =
     (row (ltb n register_room or ltb m verdict_room) BufferShort _ _ (end _))))))
 
 -- OF CLOSE
-pub close-exactly : (r t : Bytes) (n m : ℕ) → RefusedExactly (to_close r t n m) (close_outcome r t n m) (closing (register_in r) (sheet_in t))
+pub close_exactly : (r t : Bytes) (n m : ℕ) → RefusedExactly (to_close r t n m) (close_outcome r t n m) (closing (register_in r) (sheet_in t))
 unfolding run_table close_outcome read_register is_register read_sheet is_sheet read
-close-exactly r t n m = exactly-by (to_close r t n m) _ _ (close-by (is_register r) (is_sheet t) (register_in r) (sheet_in t) n m)
+close_exactly r t n m = exactly_by (to_close r t n m) _ _ (close_by (is_register r) (is_sheet t) (register_in r) (sheet_in t) n m)
 
 -- ---- read check
 
@@ -364,25 +364,25 @@ modes (suc (suc (suc (suc n)))) = above (suc (suc (suc (suc n)))) (omega arith)
     above m h =
         simp (lt-leb m 3 h, le-leb 1 m (omega arith), ne_eqb m 1 (λ e. absurd (omega arith)), ne_eqb m 2 (λ e. absurd (omega arith)), ne_eqb m 3 (λ e. absurd (omega arith)))
 
-or-or : (a b c : Bool) → a or b or c ≡ (a or b) or c
+or_or : (a b c : Bool) → a or b or c ≡ (a or b) or c
 unfolding ◌or◌
-or-or true b c = refl
-or-or false b c = refl
+or_or true b c = refl
+or_or false b c = refl
 
 -- what is wrong with a check of entries that are there
-bad-by : (g : Register) (mode lsn : ℕ) (es : List Read)
+bad_by : (g : Register) (mode lsn : ℕ) (es : List Read)
     → bad_check g mode lsn es
     ≡ not (eqb mode read_committed or eqb mode repeatable_read or eqb mode snapshot_isolation) or bad_entries (some es) or ltb g.snapshot lsn
 unfolding bad_check bad_entries
-bad-by g mode lsn es = simp (modes mode, or-or (any (λ e. eqb e.key 0) es) (ltb max_reads (length es)) (ltb g.snapshot lsn))
+bad_by g mode lsn es = simp (modes mode, or_or (any (λ e. eqb e.key 0) es) (ltb max_reads (length es)) (ltb g.snapshot lsn))
 
-no-entries : (a b : Bool) → a or bad_entries none or b ≡ true
+no_entries : (a b : Bool) → a or bad_entries none or b ≡ true
 unfolding bad_entries ◌or◌
-no-entries true b = refl
-no-entries false b = refl
+no_entries true b = refl
+no_entries false b = refl
 
 -- of a register and entries: t that the bytes are a register
-check-by : (t : Bool) (g : Register) (mode lsn : ℕ) (es : Option (List Read))
+check_by : (t : Bool) (g : Register) (mode lsn : ℕ) (es : Option (List Read))
     → check_reads (if t then some g else none) mode lsn es
     ≡ by
     (if not t then some RegisterIllFormed else
@@ -390,33 +390,33 @@ check-by : (t : Bool) (g : Register) (mode lsn : ℕ) (es : Option (List Read))
     none)
     (check_from g mode lsn 0 (entries_of es))
 unfolding check_reads by
-check-by false g mode lsn es = refl
-check-by true g mode lsn none = rw (no-entries (not (eqb mode read_committed or eqb mode repeatable_read or eqb mode snapshot_isolation)) (ltb g.snapshot lsn))
-check-by true g mode lsn (some es) = rw⁻¹ (bad-by g mode lsn es) (row (bad_check g mode lsn es) CheckIllFormed _ _ (end _))
+check_by false g mode lsn es = refl
+check_by true g mode lsn none = rw (no_entries (not (eqb mode read_committed or eqb mode repeatable_read or eqb mode snapshot_isolation)) (ltb g.snapshot lsn))
+check_by true g mode lsn (some es) = rw⁻¹ (bad_by g mode lsn es) (row (bad_check g mode lsn es) CheckIllFormed _ _ (end _))
 
 -- OF THE READ CHECK, over a list of entries
-pub reads-exactly : (register : Bytes) (mode lsn : ℕ) (es : List Read)
+pub reads_exactly : (register : Bytes) (mode lsn : ℕ) (es : List Read)
     → RefusedExactly (to_check register mode lsn (some es)) (reads_outcome register mode lsn es) (check_from (register_in register) mode lsn 0 es)
 unfolding run_table reads_outcome read_register is_register read
-reads-exactly register mode lsn es =
-    exactly-by (to_check register mode lsn (some es)) _ _ (check-by (is_register register) (register_in register) mode lsn (some es))
+reads_exactly register mode lsn es =
+    exactly_by (to_check register mode lsn (some es)) _ _ (check_by (is_register register) (register_in register) mode lsn (some es))
 
 -- AND OF THE READ CHECK, over a list of keys and a list of csns
-pub check-exactly : (register : Bytes) (mode lsn : ℕ) (keys csns : List ℕ)
+pub check_exactly : (register : Bytes) (mode lsn : ℕ) (keys csns : List ℕ)
     → RefusedExactly (to_check register mode lsn (reads_of keys csns)) (check_outcome register mode lsn keys csns)
     (check_from (register_in register) mode lsn 0 (entries_of (reads_of keys csns)))
 unfolding run_table check_outcome read_register is_register read
-check-exactly register mode lsn keys csns =
-    exactly-by (to_check register mode lsn (reads_of keys csns)) _ _ (check-by (is_register register) (register_in register) mode lsn (reads_of keys csns))
+check_exactly register mode lsn keys csns =
+    exactly_by (to_check register mode lsn (reads_of keys csns)) _ _ (check_by (is_register register) (register_in register) mode lsn (reads_of keys csns))
 
 -- ---- the desk
 
 -- OF ENTER
-pub enter-exactly : (o : OpenSet) (kind : ℕ) (tag : Bytes) (value : ℕ)
+pub enter_exactly : (o : OpenSet) (kind : ℕ) (tag : Bytes) (value : ℕ)
     → RefusedExactly (to_enter o kind tag value) (enter_outcome o kind tag value) (open_set_of (put_record (record_of kind (key_in tag) value) (open_records o)))
 unfolding run_table enter_outcome
-enter-exactly o kind tag value =
-    exactly-by (to_enter o kind tag value) _ _
+enter_exactly o kind tag value =
+    exactly_by (to_enter o kind tag value) _ _
     (row (not (is_open_set o) or not (is_kind kind) or not (sound_value kind value)) OfferIllFormed _ _
     (row (not (is_tag tag)) BadTag _ _
     (row (has_key (key_in tag) (open_records o)) KeyEntered _ _
@@ -427,9 +427,9 @@ abbrev set_if : ℕ → ℕ → ℕ → Bool → List Record → Option Offer
 set_if e sen csn t rs = if eqb e 0 or ltb e sen or not t then none else some (a_set (set_by csn sen rs))
 
 -- where it is none, any records do
-no-set : (e sen csn : ℕ) (rs qs : List Record) → set_if e sen csn false rs ≡ set_if e sen csn false qs
+no_set_lem : (e sen csn : ℕ) (rs qs : List Record) → set_if e sen csn false rs ≡ set_if e sen csn false qs
 unfolding ◌or◌
-no-set e sen csn rs qs = go (eqb e 0) (ltb e sen)
+no_set_lem e sen csn rs qs = go (eqb e 0) (ltb e sen)
   where
     go : (x y : Bool) → (if x or y or true then none else some (a_set (set_by csn sen rs))) ≡ (if x or y or true then none else some (a_set (set_by csn sen qs)))
     go true y = refl
@@ -440,22 +440,22 @@ no-set e sen csn rs qs = go (eqb e 0) (ltb e sen)
 open_by : (e sen csn : ℕ) (o : OpenSet) → offered_set e sen csn (offered_bytes o) ≡ set_if e sen csn (is_open_set o and leb 1 o.count) (open_records o)
 unfolding ◌and◌
 open_by e sen csn o =
-    set-by e sen csn (offered_bytes o) ∙ ap (λ (t : Bool). set_if e sen csn t (offered_records (offered_bytes o))) (offers-records o) ∙ go (is_open_set o) refl
+    set_by_lem e sen csn (offered_bytes o) ∙ ap (λ (t : Bool). set_if e sen csn t (offered_records (offered_bytes o))) (offers_records o) ∙ go (is_open_set o) refl
   where
     go : (t : Bool) → is_open_set o ≡ t → set_if e sen csn (t and leb 1 o.count) (offered_records (offered_bytes o)) ≡ set_if e sen csn (t and leb 1 o.count) (open_records o)
-    go true h = ap (set_if e sen csn (leb 1 o.count)) (offered-records o h)
-    go false h = no-set e sen csn (offered_records (offered_bytes o)) (open_records o)
+    go true h = ap (set_if e sen csn (leb 1 o.count)) (offered_records_lem o h)
+    go false h = no_set_lem e sen csn (offered_records (offered_bytes o)) (open_records o)
 
 -- OF OFFER
-pub offer-exactly : (o : OpenSet) (s : Bytes) (e sen csn room : ℕ)
+pub offer_exactly : (o : OpenSet) (s : Bytes) (e sen csn room : ℕ)
     → RefusedExactly (to_offer o s e sen csn room) (offer_outcome o s e sen csn room) (sheet_bytes (with_offer (sheet_in s) (a_set (set_by csn sen (open_records o)))))
 unfolding run_table offer_outcome put_outcome read_sheet is_sheet read
-offer-exactly o s e sen csn room =
-    exactly-by (to_offer o s e sen csn room) _ _
+offer_exactly o s e sen csn room =
+    exactly_by (to_offer o s e sen csn room) _ _
     (ap (λ (x : Option Offer). offer_to (read_sheet s) x e (master_of csn) room) (open_by e sen csn o)
-    ∙ offer-by (is_sheet s) (eqb e 0 or ltb e sen or not (is_open_set o and leb 1 o.count)) (sheet_in s) (a_set (set_by csn sen (open_records o))) e (master_of csn) room)
+    ∙ offer_by (is_sheet s) (eqb e 0 or ltb e sen or not (is_open_set o and leb 1 o.count)) (sheet_in s) (a_set (set_by csn sen (open_records o))) e (master_of csn) room)
 
 -- OF TAG
-pub tag-exactly : (key room : ℕ) → RefusedExactly (to_tag key room) (tag_outcome key room) (tag_of key)
+pub tag_exactly : (key room : ℕ) → RefusedExactly (to_tag key room) (tag_outcome key room) (tag_of key)
 unfolding run_table tag_outcome
-tag-exactly key room = exactly-by (to_tag key room) _ _ (row (not (is_key key)) BadTag _ _ (row (ltb room tag_room) BufferShort _ _ (end _)))
+tag_exactly key room = exactly_by (to_tag key room) _ _ (row (not (is_key key)) BadTag _ _ (row (ltb room tag_room) BufferShort _ _ (end _)))

@@ -11,13 +11,13 @@ use Rattle.laws.specs.Trees.{Tree, opened, put, notice, join, given, epoch_of, r
 
 -- an offered set that is well-formed, and of a master in the roster
 pub record GoodSet (e r sen csn : ℕ) (b : Bytes) : Type 0 where
-  pub well-formed : (o : Offer) × (offered_set e sen csn b ≡ some o)
-  pub in-roster : in_roster r (master_of csn) ≡ true
+  pub well_formed_lem : (o : Offer) × (offered_set e sen csn b ≡ some o)
+  pub in_roster_lem : in_roster r (master_of csn) ≡ true
 
 -- an offered notice that is well-formed, and of a master in the roster
 pub record GoodNotice (e r m n : ℕ) : Type 0 where
-  pub well-formed : (o : Offer) × (offered_notice e m n ≡ some o)
-  pub in-roster : in_roster r m ≡ true
+  pub well_formed_lem : (o : Offer) × (offered_notice e m n ≡ some o)
+  pub in_roster_lem : in_roster r m ≡ true
 
 -- a tree over one epoch and one roster whose offers are so, and whose buffers are each at least 9,240 long
 unfoldable pub FairTree : ℕ → ℕ → Tree → Type 0
@@ -28,10 +28,10 @@ FairTree e r (join t u room) = FairTree e r t × FairTree e r u × (sheet_room �
 FairTree e r (given b p) = ((sheet_in b).epoch ≡ e) × ((sheet_in b).roster ≡ r)
 
 -- its epoch and its roster are those
-pub fair-head : (e r : ℕ) (t : Tree) → FairTree e r t → (epoch_of t ≡ e) × (roster_of t ≡ r)
+pub fair_head : (e r : ℕ) (t : Tree) → FairTree e r t → (epoch_of t ≡ e) × (roster_of t ≡ r)
 unfolding FairTree epoch_of roster_of
-fair-head e r (opened f q room) h = (h.0, h.1)
-fair-head e r (put t f sen csn b room) h = fair-head e r t h.0
-fair-head e r (notice t f m n room) h = fair-head e r t h.0
-fair-head e r (join t u room) h = fair-head e r t h.0
-fair-head e r (given b p) h = h
+fair_head e r (opened f q room) h = (h.0, h.1)
+fair_head e r (put t f sen csn b room) h = fair_head e r t h.0
+fair_head e r (notice t f m n room) h = fair_head e r t h.0
+fair_head e r (join t u room) h = fair_head e r t h.0
+fair_head e r (given b p) h = h

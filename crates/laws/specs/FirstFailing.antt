@@ -22,8 +22,8 @@ pub record First (g : Register) (mode lsn i : ℕ) (es : List Read) (index key :
   pub behind : List Read
   pub split : es ≡ before ++ entry ∷ behind
   pub place : index ≡ i + length before
-  pub its-key : key ≡ entry.key
-  pub its-reason : failing g mode lsn entry ≡ some reason
+  pub its_key : key ≡ entry.key
+  pub its_reason : failing g mode lsn entry ≡ some reason
   pub earlier : (e : Read) → Memᴰ e before → Stands g mode lsn e
 
 -- what a finding says of the entries
@@ -33,12 +33,12 @@ Tells g mode lsn i es (fails index key reason) = First g mode lsn i es index key
 
 module _ (g : Register) (mode lsn : ℕ) where
   -- an entry that stands, in front
-  stands-too : (e : Read) {es : List Read} → Stands g mode lsn e → ((x : Read) → Memᴰ x es → Stands g mode lsn x)
+  stands_too : (e : Read) {es : List Read} → Stands g mode lsn e → ((x : Read) → Memᴰ x es → Stands g mode lsn x)
       → (x : Read) → Memᴰ x (e ∷ es) → Stands g mode lsn x
-  stands-too e h f x m = ⊎_elim (λ q. ap (failing g mode lsn) q ∙ h) (λ k. f x k) (Memᴰ.cases_cons m)
+  stands_too e h f x m = ⊎_elim (λ q. ap (failing g mode lsn) q ∙ h) (λ k. f x k) (Memᴰ.cases_cons m)
 
   one_more : (i : ℕ) (e : Read) (es : List Read) (f : Finding) → Stands g mode lsn e → Tells g mode lsn (suc i) es f → Tells g mode lsn i (e ∷ es) f
-  one_more i e es passes h t = stands-too e h t
+  one_more i e es passes h t = stands_too e h t
   one_more i e es (fails index key reason) h t =
       let n = t.place in
       record {
@@ -47,16 +47,16 @@ module _ (g : Register) (mode lsn : ℕ) where
         behind = t.behind;
         split = ap (e ∷◌) t.split;
         place = omega arith;
-        its-key = t.its-key;
-        its-reason = t.its-reason;
-        earlier = stands-too e h t.earlier;
+        its_key = t.its_key;
+        its_reason = t.its_reason;
+        earlier = stands_too e h t.earlier;
       }
 
   -- THE FINDING TELLS THE FIRST FAILING ENTRY
-  pub check-tells : (i : ℕ) (es : List Read) → Tells g mode lsn i es (check_from g mode lsn i es)
+  pub check_tells : (i : ℕ) (es : List Read) → Tells g mode lsn i es (check_from g mode lsn i es)
   unfolding check_from finding_or
-  check-tells i [] = λ e m. absurd (Memᴰ.not-nil m)
-  check-tells i (e ∷ es) = go (failing g mode lsn e) refl (check-tells (suc i) es)
+  check_tells i [] = λ e m. absurd (Memᴰ.not-nil m)
+  check_tells i (e ∷ es) = go (failing g mode lsn e) refl (check_tells (suc i) es)
     where
       go : (o : Option Reason) → failing g mode lsn e ≡ o → Tells g mode lsn (suc i) es (check_from g mode lsn (suc i) es)
           → Tells g mode lsn i (e ∷ es) (finding_or o i e.key (check_from g mode lsn (suc i) es))
@@ -68,7 +68,7 @@ module _ (g : Register) (mode lsn : ℕ) where
             behind = es;
             split = refl;
             place = omega arith;
-            its-key = refl;
-            its-reason = p;
+            its_key = refl;
+            its_reason = p;
             earlier = λ x m. absurd (Memᴰ.not-nil m);
           }

@@ -33,14 +33,14 @@ same_refl (x ∷ xs) = both (eq-eqb x x refl) (same_refl xs)
 
 module _ {A : Type 0} (decode : Bytes → A) (sound : A → Bool) (encode : A → Bytes) where
   -- a sound value comes back from its bytes, if decoding undoes encoding
-  pub read-encoded : (a : A) → decode (encode a) ≡ a → sound a ≡ true → read decode sound encode (encode a) ≡ some a
+  pub read_encoded : (a : A) → decode (encode a) ≡ a → sound a ≡ true → read decode sound encode (encode a) ≡ some a
   unfolding read well_formed
-  read-encoded a d s = simp (d, both s (same_refl (encode a)))
+  read_encoded a d s = simp (d, both s (same_refl (encode a)))
 
   -- what is read is sound, and its bytes are those that were read
-  pub read-exact : (b : Bytes) (a : A) → read decode sound encode b ≡ some a → (b ≡ encode a) × (sound a ≡ true)
+  pub read_exact : (b : Bytes) (a : A) → read decode sound encode b ≡ some a → (b ≡ encode a) × (sound a ≡ true)
   unfolding read well_formed
-  read-exact b a e = go (sound (decode b) and same (encode (decode b)) b) refl e
+  read_exact b a e = go (sound (decode b) and same (encode (decode b)) b) refl e
     where
       go : (t : Bool) → (sound (decode b) and same (encode (decode b)) b) ≡ t → (if t then some (decode b) else none) ≡ some a → (b ≡ encode a) × (sound a ≡ true)
       go true p q =

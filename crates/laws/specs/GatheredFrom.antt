@@ -8,70 +8,70 @@ use Rattle.rules.specs.Sheet.{Sheet, sound_sheet}
 use Rattle.rules.specs.Gathering.{Offer, spoils, spoiled_sheet, gathered, offers_of, with_offer, joined}
 use Rattle.laws.specs.Tests.{or→}
 use Rattle.laws.specs.ListLaws.{Sub}
-use Rattle.laws.specs.GatherLaws.{Proper, spoils-more, same-offers, gathered-spoiled, gathered-put, gathered-join, epoch-of, roster-of, spoiled-of}
-use Rattle.laws.specs.GatherSound.{Fair, Head, gathered-sound, spoiled-sound}
-use Rattle.laws.specs.OwnOffers.{own-offers, own-spoiled}
+use Rattle.laws.specs.GatherLaws.{Proper, spoils_more, same_offers, gathered_spoiled, gathered_put, gathered_join, epoch_of_lem, roster_of_lem, spoiled_of}
+use Rattle.laws.specs.GatherSound.{Fair, Head, gathered_sound, spoiled_sound}
+use Rattle.laws.specs.OwnOffers.{own_offers, own_spoiled}
 
 -- the sheet of these offers, where the test says if a sheet that was begun at was spoiled
 abbrev pub gathered_from : Bool → ℕ → ℕ → List Offer → Sheet
 gathered_from t e r os = if t then spoiled_sheet e r else gathered e r os
 
 -- its epoch, its roster, and when it is spoiled
-pub from-epoch : (t : Bool) (e r : ℕ) (os : List Offer) → (gathered_from t e r os).epoch ≡ e
-from-epoch true e r os = unfold spoiled_sheet in refl
-from-epoch false e r os = epoch-of e r os
+pub from_epoch : (t : Bool) (e r : ℕ) (os : List Offer) → (gathered_from t e r os).epoch ≡ e
+from_epoch true e r os = unfold spoiled_sheet in refl
+from_epoch false e r os = epoch_of_lem e r os
 
-pub from-roster : (t : Bool) (e r : ℕ) (os : List Offer) → (gathered_from t e r os).roster ≡ r
-from-roster true e r os = unfold spoiled_sheet in refl
-from-roster false e r os = roster-of e r os
+pub from_roster : (t : Bool) (e r : ℕ) (os : List Offer) → (gathered_from t e r os).roster ≡ r
+from_roster true e r os = unfold spoiled_sheet in refl
+from_roster false e r os = roster_of_lem e r os
 
-pub from-spoiled : (t : Bool) (e r : ℕ) (os : List Offer) → (gathered_from t e r os).spoiled ≡ t or spoils os
+pub from_spoiled : (t : Bool) (e r : ℕ) (os : List Offer) → (gathered_from t e r os).spoiled ≡ t or spoils os
 unfolding ◌or◌
-from-spoiled true e r os = unfold spoiled_sheet in refl
-from-spoiled false e r os = spoiled-of e r os
+from_spoiled true e r os = unfold spoiled_sheet in refl
+from_spoiled false e r os = spoiled_of e r os
 
 -- of fair offers it is sound
-pub from-sound : (t : Bool) (e r : ℕ) (os : List Offer) → Head e r → Fair e r os → sound_sheet (gathered_from t e r os) ≡ true
-from-sound true e r os h f = spoiled-sound e r h
-from-sound false e r os h f = gathered-sound e r os h f
+pub from_sound : (t : Bool) (e r : ℕ) (os : List Offer) → Head e r → Fair e r os → sound_sheet (gathered_from t e r os) ≡ true
+from_sound true e r os h f = spoiled_sound e r h
+from_sound false e r os h f = gathered_sound e r os h f
 
 -- one offer more
-pub from-put : (t : Bool) (e r : ℕ) (xs : List Offer) (o : Offer) → Proper xs → with_offer (gathered_from t e r xs) o ≡ gathered_from t e r (xs ++ (o ∷ []))
-from-put true e r xs o g = unfold with_offer spoiled_sheet in refl
-from-put false e r xs o g = gathered-put e r xs o g
+pub from_put : (t : Bool) (e r : ℕ) (xs : List Offer) (o : Offer) → Proper xs → with_offer (gathered_from t e r xs) o ≡ gathered_from t e r (xs ++ (o ∷ []))
+from_put true e r xs o g = unfold with_offer spoiled_sheet in refl
+from_put false e r xs o g = gathered_put e r xs o g
 
 -- joined with a spoiled one
-join-second : (a : Sheet) (e r : ℕ) → joined a (spoiled_sheet e r) ≡ spoiled_sheet a.epoch a.roster
+join_second : (a : Sheet) (e r : ℕ) → joined a (spoiled_sheet e r) ≡ spoiled_sheet a.epoch a.roster
 unfolding joined spoiled_sheet ◌or◌
-join-second a e r = go a.spoiled
+join_second a e r = go a.spoiled
   where
     go : (t : Bool) → (if t or true then spoiled_sheet a.epoch a.roster else gathered a.epoch a.roster (offers_of a ++ offers_of (spoiled_sheet e r))) ≡ spoiled_sheet a.epoch a.roster
     go true = refl
     go false = refl
 
 -- two joined
-pub from-join : (s t : Bool) (e r : ℕ) (xs ys : List Offer) → Proper xs → Proper ys
+pub from_join : (s t : Bool) (e r : ℕ) (xs ys : List Offer) → Proper xs → Proper ys
     → joined (gathered_from s e r xs) (gathered_from t e r ys) ≡ gathered_from (s or t) e r (xs ++ ys)
 unfolding ◌or◌
-from-join true t e r xs ys g h = unfold joined spoiled_sheet in refl
-from-join false true e r xs ys g h = join-second (gathered e r xs) e r ∙ ap₂ spoiled_sheet (epoch-of e r xs) (roster-of e r xs)
-from-join false false e r xs ys g h = gathered-join e r xs ys g h
+from_join true t e r xs ys g h = unfold joined spoiled_sheet in refl
+from_join false true e r xs ys g h = join_second (gathered e r xs) e r ∙ ap₂ spoiled_sheet (epoch_of_lem e r xs) (roster_of_lem e r xs)
+from_join false false e r xs ys g h = gathered_join e r xs ys g h
 
 -- a sound sheet, from its own offers
-pub from-own : (s : Sheet) → sound_sheet s ≡ true → gathered_from s.spoiled s.epoch s.roster (offers_of s) ≡ s
-from-own s e = go s.spoiled refl
+pub from_own : (s : Sheet) → sound_sheet s ≡ true → gathered_from s.spoiled s.epoch s.roster (offers_of s) ≡ s
+from_own s e = go s.spoiled refl
   where
     go : (t : Bool) → s.spoiled ≡ t → gathered_from t s.epoch s.roster (offers_of s) ≡ s
-    go true p = sym (own-spoiled s e p)
-    go false p = own-offers s e p
+    go true p = sym (own_spoiled s e p)
+    go false p = own_offers s e p
 
 -- which offers there are settles it
-pub from-same : (t : Bool) (e r : ℕ) (xs ys : List Offer) → Sub xs ys → Sub ys xs → gathered_from t e r xs ≡ gathered_from t e r ys
-from-same true e r xs ys s v = refl
-from-same false e r xs ys s v = same-offers e r xs ys s v
+pub from_same : (t : Bool) (e r : ℕ) (xs ys : List Offer) → Sub xs ys → Sub ys xs → gathered_from t e r xs ≡ gathered_from t e r ys
+from_same true e r xs ys s v = refl
+from_same false e r xs ys s v = same_offers e r xs ys s v
 
 -- SPOILED IS FINAL: once spoiled, with more offers and more sheets begun at it stays so
 pub from_more : (s t : Bool) (e r : ℕ) (xs ys : List Offer) → (s ≡ true → t ≡ true) → Sub xs ys → s or spoils xs ≡ true → gathered_from t e r ys ≡ spoiled_sheet e r
 from_more s true e r xs ys f v p = refl
 from_more s false e r xs ys f v p =
-    gathered-spoiled e r ys (⊎_elim (λ q. absurd (true≢false (sym (f q)))) (λ q. spoils-more xs ys v q) (or→ s (spoils xs) p))
+    gathered_spoiled e r ys (⊎_elim (λ q. absurd (true≢false (sym (f q)))) (λ q. spoils_more xs ys v q) (or→ s (spoils xs) p))

@@ -9,7 +9,7 @@ use Rattle.rules.specs.Gathering.{Offer, a_set, a_notice, sets_among, notices_am
 use Rattle.rules.specs.Refused.{Outcome, refused, done, sheet_room, open_outcome, put_outcome, notice_outcome, join_outcome, run_refused}
 use Rattle.laws.specs.FormLaws.{→fits}
 use Rattle.laws.specs.Trees.{Tree, opened, put, notice, Gatherer, paper, ends, gathered_in, run_trees}
-use Rattle.laws.specs.Demand3.{demand-3}
+use Rattle.laws.specs.Demand3.{demand_3}
 
 -- demand 3 on one tree: if the paper does not refuse it, it ends in the sheet of its offers
 abbrev pub AsksOn : Gatherer → Tree → Type 0
@@ -20,8 +20,8 @@ abbrev pub Demand3 : Gatherer → Type 0
 Demand3 c = (t : Tree) → AsksOn c t
 
 -- THE OPERATIONS OF DOCUMENT 01 MEET IT
-pub paper-meets : Demand3 paper
-paper-meets t b p = p ∙ ap done (demand-3 t b p)
+pub paper_meets : Demand3 paper
+paper_meets t b p = p ∙ ap done (demand_3 t b p)
 
 -- refused where the paper refuses, else this sheet
 unfoldable pub writing : Outcome Bytes → Sheet → Outcome Bytes
@@ -105,25 +105,25 @@ byte_of i (refused n) = 0
 byte_of i (done b) = get_or b i 0
 
 -- the state byte 1 is not 0
-pub spoiled-on-G : AsksOn always_spoiled example_g → ⊥
+pub spoiled_on_G : AsksOn always_spoiled example_g → ⊥
 unfolding run_refused run_trees writing spoiled_for
-spoiled-on-G d = let z : ◌≡◌ {A = ℕ} 1 0 = ap (byte_of 6) (d _ refl) in omega arith
+spoiled_on_G d = let z : ◌≡◌ {A = ℕ} 1 0 = ap (byte_of 6) (d _ refl) in omega arith
 
-pub always-spoiled-fails : Demand3 always_spoiled → ⊥
-always-spoiled-fails d = spoiled-on-G (d example_g)
+pub always_spoiled_fails : Demand3 always_spoiled → ⊥
+always_spoiled_fails d = spoiled_on_G (d example_g)
 
 -- one set is not two
-pub first-offer-on-A : AsksOn first_offer example_a → ⊥
+pub first_offer_on_A : AsksOn first_offer example_a → ⊥
 unfolding run_refused run_trees writing is_blank repeated
-first-offer-on-A d = let z : ◌≡◌ {A = ℕ} 1 2 = ap (byte_of 7) (d _ refl) in omega arith
+first_offer_on_A d = let z : ◌≡◌ {A = ℕ} 1 2 = ap (byte_of 7) (d _ refl) in omega arith
 
-pub first-offer-fails : Demand3 first_offer → ⊥
-first-offer-fails d = first-offer-on-A (d example_a)
+pub first_offer_fails : Demand3 first_offer → ⊥
+first_offer_fails d = first_offer_on_A (d example_a)
 
 -- the state byte 1 is not 0
-pub deliveries-on-G1 : AsksOn counts_deliveries example_g1 → ⊥
+pub deliveries_on_G1 : AsksOn counts_deliveries example_g1 → ⊥
 unfolding run_refused run_trees writing spoiled_for over_delivered delivered
-deliveries-on-G1 d = let z : ◌≡◌ {A = ℕ} 1 0 = ap (byte_of 6) (d _ refl) in omega arith
+deliveries_on_G1 d = let z : ◌≡◌ {A = ℕ} 1 0 = ap (byte_of 6) (d _ refl) in omega arith
 
-pub deliveries-fail : Demand3 counts_deliveries → ⊥
-deliveries-fail d = deliveries-on-G1 (d example_g1)
+pub deliveries_fail : Demand3 counts_deliveries → ⊥
+deliveries_fail d = deliveries_on_G1 (d example_g1)

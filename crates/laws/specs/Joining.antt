@@ -14,10 +14,10 @@ use Rattle.rules.specs.Gathering.{Notice, a_set, a_notice, set_in, notice_in, se
 use Rattle.laws.specs.Tests.{left, right, both, or→, same_tests}
 use Rattle.laws.specs.ListLaws.{any→, →any, all→, flat→, →flat, up_from→, →up_from, flat_append}
 use Rattle.laws.specs.SheetLaws.{sound_sheet→}
-use Rattle.laws.specs.Distinct.{some_two-in}
-use Rattle.laws.specs.Notices.{notice_by, notice-cap, notice-le, notice-in, notice-if, notice-else}
+use Rattle.laws.specs.Distinct.{some_two_in}
+use Rattle.laws.specs.Notices.{notice_by, notice_cap, notice_le, notice_in_lem, notice_if, notice_else}
 use Rattle.laws.specs.GatherLaws.{→set, notice→, →notice}
-use Rattle.laws.specs.GatherSound.{Fair, head_of, gathered-sound, spoiled-sound}
+use Rattle.laws.specs.GatherSound.{Fair, head_of, gathered_sound, spoiled_sound}
 
 -- what master m noticed in a sheet
 abbrev pub noted : Sheet → ℕ → ℕ
@@ -63,15 +63,15 @@ any_same p q (x ∷ xs) h = ap₂ ◌or◌ (h x (Memᴰ.head refl)) (any_same p 
 
 -- ---- the sets
 
-sets-map : (ws : List WriteSet) → flat set_in (map a_set ws) ≡ ws
+sets_map : (ws : List WriteSet) → flat set_in (map a_set ws) ≡ ws
 unfolding flat set_in
-sets-map [] = refl
-sets-map (w ∷ ws) = ap (λ (l : List WriteSet). w ∷ l) (sets-map ws)
+sets_map [] = refl
+sets_map (w ∷ ws) = ap (λ (l : List WriteSet). w ∷ l) (sets_map ws)
 
-no-sets : (s : Sheet) (ms : List ℕ) → flat set_in (flat (noticed s) ms) ≡ []
+no_sets : (s : Sheet) (ms : List ℕ) → flat set_in (flat (noticed s) ms) ≡ []
 unfolding flat set_in noticed
-no-sets s [] = refl
-no-sets s (m ∷ ms) = flat_append set_in (noticed s m) (flat (noticed s) ms) ∙ ap₂ ◌++◌ none_here (no-sets s ms)
+no_sets s [] = refl
+no_sets s (m ∷ ms) = flat_append set_in (noticed s m) (flat (noticed s) ms) ∙ ap₂ ◌++◌ none_here (no_sets s ms)
   where
     none_here : flat set_in (noticed s m) ≡ []
     none_here = go (eqb (noted s m) no_notice)
@@ -85,12 +85,12 @@ pub sets_of_lem : (s : Sheet) → sets_among (offers_of s) ≡ s.sets
 unfolding sets_among offers_of
 sets_of_lem s =
     flat_append set_in (map a_set s.sets) (flat (noticed s) masters)
-    ∙ ap₂ ◌++◌ (sets-map s.sets) (no-sets s masters) ∙ append-nil s.sets
+    ∙ ap₂ ◌++◌ (sets_map s.sets) (no_sets s masters) ∙ append-nil s.sets
 
 -- the sets that two sheets offer
-pub sets-together : (a b : Sheet) → sets_among (offers_of a ++ offers_of b) ≡ a.sets ++ b.sets
+pub sets_together : (a b : Sheet) → sets_among (offers_of a ++ offers_of b) ≡ a.sets ++ b.sets
 unfolding sets_among
-sets-together a b = flat_append set_in (offers_of a) (offers_of b) ∙ ap₂ ◌++◌ (sets_of_lem a) (sets_of_lem b)
+sets_together a b = flat_append set_in (offers_of a) (offers_of b) ∙ ap₂ ◌++◌ (sets_of_lem a) (sets_of_lem b)
 
 -- ---- the notices
 
@@ -98,12 +98,12 @@ sets-together a b = flat_append set_in (offers_of a) (offers_of b) ∙ ap₂ ◌
 offered→ : (s : Sheet) {x : Notice} → Memᴰ x (notices_among (offers_of s)) → (x.master < 16) × (x.number ≡ noted s x.master) × (x.number ≡ no_notice → ⊥)
 unfolding offers_of noticed
 offered→ s {x} k =
-    ⊎_elim (λ l. absurd (no-set (Memᴰ.of_map a_set s.sets l).0 (Memᴰ.of_map a_set s.sets l).2))
+    ⊎_elim (λ l. absurd (no_set_lem (Memᴰ.of_map a_set s.sets l).0 (Memᴰ.of_map a_set s.sets l).2))
     (λ l. let r = flat→ (noticed s) masters l in here r.0 (up_from→ 0 16 r.1).1 r.2)
     (Memᴰ.append_cases (map a_set s.sets) (notice→ (offers_of s) k))
   where
-    no-set : (w : WriteSet) → a_set w ≡ a_notice x → ⊥
-    no-set w e = let z : ◌≡◌ {A = ℕ} 0 1 = cc in omega arith
+    no_set_lem : (w : WriteSet) → a_set w ≡ a_notice x → ⊥
+    no_set_lem w e = let z : ◌≡◌ {A = ℕ} 0 1 = cc in omega arith
 
     here : (m : ℕ) → m < 16 → Memᴰ (a_notice x) (noticed s m) → (x.master < 16) × (x.number ≡ noted s x.master) × (x.number ≡ no_notice → ⊥)
     here m h l = go (eqb (noted s m) no_notice) refl l
@@ -131,45 +131,45 @@ noted_of s m h c =
     ⊎_elim
     (λ e. elim (ℕ_discrete (noted s m) no_notice) [
       | yes q ↦ e ∙ sym q
-      | no q ↦ omega (arith, notice-le m (noted s m) (→offered s m h q))
+      | no q ↦ omega (arith, notice_le m (noted s m) (→offered s m h q))
     ])
     (λ k. (offered→ s k).1)
-    (notice-in m (notices_among (offers_of s)))
+    (notice_in_lem m (notices_among (offers_of s)))
 
-notice-append : (m : ℕ) (xs ys : List Notice) → notice_of m (xs ++ ys) ≡ min (notice_of m xs) (notice_of m ys)
-notice-append m [] ys = omega (arith, notice-cap m ys, no-notices)
+notice_append : (m : ℕ) (xs ys : List Notice) → notice_of m (xs ++ ys) ≡ min (notice_of m xs) (notice_of m ys)
+notice_append m [] ys = omega (arith, notice_cap m ys, no_notices_lem)
   where
-    no-notices : notice_of m [] ≡ no_notice
-    no-notices = unfold notice_of in refl
-notice-append m (x ∷ xs) ys =
+    no_notices_lem : notice_of m [] ≡ no_notice
+    no_notices_lem = unfold notice_of in refl
+notice_append m (x ∷ xs) ys =
     elim (ℕ_discrete x.master m) [
-      | yes e ↦ omega (arith, notice-if m x (xs ++ ys) e, notice-if m x xs e, notice-append m xs ys)
-      | no h ↦ omega (arith, notice-else m x (xs ++ ys) h, notice-else m x xs h, notice-append m xs ys)
+      | yes e ↦ omega (arith, notice_if m x (xs ++ ys) e, notice_if m x xs e, notice_append m xs ys)
+      | no h ↦ omega (arith, notice_else m x (xs ++ ys) h, notice_else m x xs h, notice_append m xs ys)
     ]
 
 -- a notice byte of a sound sheet
-sound-notice : (s : Sheet) → sound_sheet s ≡ true → (m : ℕ) → m < 16 → (noted s m ≡ no_notice) ⊎ ((in_roster s.roster m ≡ true) × (noted s m ≤ max_sets))
+sound_notice_lem : (s : Sheet) → sound_sheet s ≡ true → (m : ℕ) → m < 16 → (noted s m ≡ no_notice) ⊎ ((in_roster s.roster m ≡ true) × (noted s m ≤ max_sets))
 unfolding sound_sheet sound_notice
-sound-notice s e m h =
+sound_notice_lem s e m h =
     ⊎_elim (λ p. inl (eqb-true (noted s m) no_notice p)) (λ p. inr (left _ _ p, leb-true (noted s m) max_sets (left _ _ (right _ _ p))))
     (or→ _ _ (all→ (λ k. sound_notice s.roster k (noted s k) (sets_of k s.sets)) (left _ _ (right _ _ (right _ _ (right _ _ (right _ _ (right _ _ e)))))) (→up_from 0 16 (omega arith) h)))
 
-pub noted-cap : (s : Sheet) → sound_sheet s ≡ true → (m : ℕ) → m < 16 → noted s m ≤ no_notice
-noted-cap s e m h = ⊎_elim (λ p. omega arith) (λ p. omega arith) (sound-notice s e m h)
+pub noted_cap : (s : Sheet) → sound_sheet s ≡ true → (m : ℕ) → m < 16 → noted s m ≤ no_notice
+noted_cap s e m h = ⊎_elim (λ p. omega arith) (λ p. omega arith) (sound_notice_lem s e m h)
 
 -- THE NOTICE OF A MASTER IN BOTH SHEETS' OFFERS
-pub notice-together : (a b : Sheet) → sound_sheet a ≡ true → sound_sheet b ≡ true → (m : ℕ) → m < 16
+pub notice_together_lem : (a b : Sheet) → sound_sheet a ≡ true → sound_sheet b ≡ true → (m : ℕ) → m < 16
     → notice_of m (notices_among (offers_of a ++ offers_of b)) ≡ notice_together a b m
 unfolding notice_together notices_among
-notice-together a b p q m h =
-    ap (notice_of m) (flat_append notice_in (offers_of a) (offers_of b)) ∙ notice-append m (flat notice_in (offers_of a)) (flat notice_in (offers_of b))
-    ∙ ap₂ min (noted_of a m h (noted-cap a p m h)) (noted_of b m h (noted-cap b q m h))
+notice_together_lem a b p q m h =
+    ap (notice_of m) (flat_append notice_in (offers_of a) (offers_of b)) ∙ notice_append m (flat notice_in (offers_of a)) (flat notice_in (offers_of b))
+    ∙ ap₂ min (noted_of a m h (noted_cap a p m h)) (noted_of b m h (noted_cap b q m h))
 
 -- two notices, of a sheet each, of one master
-two-noted : (a b : Sheet) {x y : Notice} → Memᴰ x (notices_among (offers_of a)) → Memᴰ y (notices_among (offers_of b))
+two_noted : (a b : Sheet) {x y : Notice} → Memᴰ x (notices_among (offers_of a)) → Memᴰ y (notices_among (offers_of b))
     → x.master ≡ y.master → (x.number ≡ y.number → ⊥) → any (notices_differ a b) masters ≡ true
 unfolding notices_differ
-two-noted a b {x} {y} k l e d =
+two_noted a b {x} {y} k l e d =
     let p = offered→ a k in
     let q = offered→ b l in
     let m = x.master in
@@ -184,8 +184,8 @@ unfolding differ
 differ→ x y e = (eqb-true x.master y.master (left _ _ e), eqb-false x.number y.number (not-true _ (right _ _ e)))
 
 -- a sheet offers one notice a master
-pub one-noted : (s : Sheet) {x y : Notice} → Memᴰ x (notices_among (offers_of s)) → Memᴰ y (notices_among (offers_of s)) → x.master ≡ y.master → x.number ≡ y.number
-one-noted s k l e = (offered→ s k).1 ∙ ap (noted s) e ∙ sym (offered→ s l).1
+pub one_noted : (s : Sheet) {x y : Notice} → Memᴰ x (notices_among (offers_of s)) → Memᴰ y (notices_among (offers_of s)) → x.master ≡ y.master → x.number ≡ y.number
+one_noted s k l e = (offered→ s k).1 ∙ ap (noted s) e ∙ sym (offered→ s l).1
 
 differs→ : (a b : Sheet) → some_two differ (notices_among (offers_of a) ++ notices_among (offers_of b)) ≡ true → any (notices_differ a b) masters ≡ true
 unfolding some_two
@@ -196,8 +196,8 @@ differs→ a b e =
     let q = any→ (differ p.0) (na ++ nb) p.2 in
     let d = differ→ p.0 q.0 q.2 in
     ⊎_elim
-    (λ k. ⊎_elim (λ l. absurd (d.1 (one-noted a k l d.0))) (λ l. two-noted a b k l d.0 d.1) (Memᴰ.append_cases na q.1))
-    (λ k. ⊎_elim (λ l. two-noted a b l k (sym d.0) (λ c. d.1 (sym c))) (λ l. absurd (d.1 (one-noted b k l d.0))) (Memᴰ.append_cases na q.1))
+    (λ k. ⊎_elim (λ l. absurd (d.1 (one_noted a k l d.0))) (λ l. two_noted a b k l d.0 d.1) (Memᴰ.append_cases na q.1))
+    (λ k. ⊎_elim (λ l. two_noted a b l k (sym d.0) (λ c. d.1 (sym c))) (λ l. absurd (d.1 (one_noted b k l d.0))) (Memᴰ.append_cases na q.1))
     (Memᴰ.append_cases na p.1)
 
 →differs : (a b : Sheet) → any (notices_differ a b) masters ≡ true → some_two differ (notices_among (offers_of a) ++ notices_among (offers_of b)) ≡ true
@@ -208,37 +208,37 @@ unfolding notices_differ differ
     let h = (up_from→ 0 16 p.1).1 in
     let k = →offered a m h (eqb-false _ _ (not-true _ (left _ _ p.2))) in
     let l = →offered b m h (eqb-false _ _ (not-true _ (left _ _ (right _ _ p.2)))) in
-    some_two-in differ (Memᴰ.append_left (notices_among (offers_of b)) k) (Memᴰ.append_right (notices_among (offers_of a)) l)
+    some_two_in differ (Memᴰ.append_left (notices_among (offers_of b)) k) (Memᴰ.append_right (notices_among (offers_of a)) l)
     (both (eq-eqb m m refl) (right _ _ (right _ _ p.2)))
 
-pub two-notices : (a b : Sheet) → two_notices (offers_of a ++ offers_of b) ≡ any (notices_differ a b) masters
+pub two_notices_lem : (a b : Sheet) → two_notices (offers_of a ++ offers_of b) ≡ any (notices_differ a b) masters
 unfolding two_notices notices_among
-two-notices a b =
+two_notices_lem a b =
     ap (some_two differ) (flat_append notice_in (offers_of a) (offers_of b))
     ∙ same_tests _ _ (differs→ a b) (→differs a b)
 
 -- ---- the whole
 
 module _ (a b : Sheet) (p : sound_sheet a ≡ true) (q : sound_sheet b ≡ true) where
-  over-notice : over_notice (offers_of a ++ offers_of b) ≡ any (over_at a b) masters
+  over_notice_lem : over_notice (offers_of a ++ offers_of b) ≡ any (over_at a b) masters
   unfolding over_notice over_at together
-  over-notice =
+  over_notice_lem =
       any_same _ _ masters
-      (λ m k. ap₂ (λ (n : ℕ) (ws : List WriteSet). not (allows n (sets_of m (distinct ws)))) (notice-together a b p q m (up_from→ 0 16 k).1) (sets-together a b))
+      (λ m k. ap₂ (λ (n : ℕ) (ws : List WriteSet). not (allows n (sets_of m (distinct ws)))) (notice_together_lem a b p q m (up_from→ 0 16 k).1) (sets_together a b))
 
-  spoils-together : spoils (offers_of a ++ offers_of b) ≡ join_spoils a b
+  spoils_together : spoils (offers_of a ++ offers_of b) ≡ join_spoils a b
   unfolding spoils join_spoils shared_csn too_many together
-  spoils-together =
+  spoils_together =
       ap₂ ◌or◌
-      (ap₂ ◌or◌ (ap (some_two clash) (sets-together a b)) (two-notices a b))
-      (ap₂ ◌or◌ (ap (λ (ws : List WriteSet). ltb max_sets (length (distinct ws))) (sets-together a b)) over-notice)
+      (ap₂ ◌or◌ (ap (some_two clash) (sets_together a b)) (two_notices_lem a b))
+      (ap₂ ◌or◌ (ap (λ (ws : List WriteSet). ltb max_sets (length (distinct ws))) (sets_together a b)) over_notice_lem)
 
-  holds-together : holding a.epoch a.roster (offers_of a ++ offers_of b) ≡ join_held a b
+  holds_together : holding a.epoch a.roster (offers_of a ++ offers_of b) ≡ join_held a b
   unfolding holding join_held together
-  holds-together =
+  holds_together =
       ap₂ (sound_of a.epoch a.roster)
-      (map_same _ _ masters (λ m k. notice-together a b p q m (up_from→ 0 16 k).1))
-      (ap distinct (sets-together a b))
+      (map_same _ _ masters (λ m k. notice_together_lem a b p q m (up_from→ 0 16 k).1))
+      (ap distinct (sets_together a b))
 
   -- JOINING, BY TESTS ON THE TWO SHEETS
   pub joined_by : joined a b ≡ (if a.spoiled or b.spoiled or join_spoils a b then spoiled_sheet a.epoch a.roster else join_held a b)
@@ -249,25 +249,25 @@ module _ (a b : Sheet) (p : sound_sheet a ≡ true) (q : sound_sheet b ≡ true)
           ≡ (if s or t or join_spoils a b then spoiled_sheet a.epoch a.roster else join_held a b)
       go true t = refl
       go false true = refl
-      go false false = ap₂ (λ (t : Bool) (s : Sheet). if t then spoiled_sheet a.epoch a.roster else s) spoils-together holds-together
+      go false false = ap₂ (λ (t : Bool) (s : Sheet). if t then spoiled_sheet a.epoch a.roster else s) spoils_together holds_together
 
 -- ---- what is joined is sound
 
 -- THE OFFERS OF A SOUND SHEET ARE FAIR
-pub offers-fair : (s : Sheet) → sound_sheet s ≡ true → Fair s.epoch s.roster (offers_of s)
-offers-fair s e (a_set w) k = all→ (sound_set s.epoch s.roster) (sound_sheet→ s e).sets (rw (sets_of_lem s) at (→set k))
-offers-fair s e (a_notice x) k =
+pub offers_fair : (s : Sheet) → sound_sheet s ≡ true → Fair s.epoch s.roster (offers_of s)
+offers_fair s e (a_set w) k = all→ (sound_set s.epoch s.roster) (sound_sheet→ s e).sets (rw (sets_of_lem s) at (→set k))
+offers_fair s e (a_notice x) k =
     let r = offered→ s (→notice k) in
-    ⊎_elim (λ c. absurd (r.2 (r.1 ∙ c))) (λ c. (r.0, omega arith, c.0)) (sound-notice s e x.master r.0)
+    ⊎_elim (λ c. absurd (r.2 (r.1 ∙ c))) (λ c. (r.0, omega arith, c.0)) (sound_notice_lem s e x.master r.0)
 
 -- TWO SOUND SHEETS OF ONE EPOCH AND ROSTER ARE JOINED TO A SOUND ONE
-pub joined-sound : (a b : Sheet) → sound_sheet a ≡ true → sound_sheet b ≡ true → a.epoch ≡ b.epoch → a.roster ≡ b.roster → sound_sheet (joined a b) ≡ true
+pub joined_sound : (a b : Sheet) → sound_sheet a ≡ true → sound_sheet b ≡ true → a.epoch ≡ b.epoch → a.roster ≡ b.roster → sound_sheet (joined a b) ≡ true
 unfolding joined
-joined-sound a b p q e r = go (a.spoiled or b.spoiled)
+joined_sound a b p q e r = go (a.spoiled or b.spoiled)
   where
     fair : Fair a.epoch a.roster (offers_of a ++ offers_of b)
-    fair o m = ⊎_elim (λ k. offers-fair a p o k) (λ k. rw (e, r) (offers-fair b q o k)) (Memᴰ.append_cases (offers_of a) m)
+    fair o m = ⊎_elim (λ k. offers_fair a p o k) (λ k. rw (e, r) (offers_fair b q o k)) (Memᴰ.append_cases (offers_of a) m)
 
     go : (t : Bool) → sound_sheet (if t then spoiled_sheet a.epoch a.roster else gathered a.epoch a.roster (offers_of a ++ offers_of b)) ≡ true
-    go true = spoiled-sound a.epoch a.roster (head_of a p)
-    go false = gathered-sound a.epoch a.roster (offers_of a ++ offers_of b) (head_of a p) fair
+    go true = spoiled_sound a.epoch a.roster (head_of a p)
+    go false = gathered_sound a.epoch a.roster (offers_of a ++ offers_of b) (head_of a p) fair

@@ -40,11 +40,11 @@ module _ {A : Type 0} where
   all→ p e (Memᴰ.head q) = ap p q ∙ left _ _ e
   all→ p e (Memᴰ.tail m) = all→ p (right _ _ e) m
 
-  pub sub-append : {xs ys : List A} (zs : List A) → Sub xs ys → Sub (xs ++ zs) (ys ++ zs)
-  sub-append {xs} {ys} zs s x m = ⊎_elim (λ k. Memᴰ.append_left zs (s x k)) (λ k. Memᴰ.append_right ys k) (Memᴰ.append_cases xs m)
+  pub sub_append : {xs ys : List A} (zs : List A) → Sub xs ys → Sub (xs ++ zs) (ys ++ zs)
+  sub_append {xs} {ys} zs s x m = ⊎_elim (λ k. Memᴰ.append_left zs (s x k)) (λ k. Memᴰ.append_right ys k) (Memᴰ.append_cases xs m)
 
-  pub sub-append-right : {ys zs : List A} (xs : List A) → Sub ys zs → Sub (xs ++ ys) (xs ++ zs)
-  sub-append-right {ys} {zs} xs s x m = ⊎_elim (λ k. Memᴰ.append_left zs k) (λ k. Memᴰ.append_right xs (s x k)) (Memᴰ.append_cases xs m)
+  pub sub_append_right : {ys zs : List A} (xs : List A) → Sub ys zs → Sub (xs ++ ys) (xs ++ zs)
+  sub_append_right {ys} {zs} xs s x m = ⊎_elim (λ k. Memᴰ.append_left zs k) (λ k. Memᴰ.append_right xs (s x k)) (Memᴰ.append_cases xs m)
 
   pub keep→ : (p : A → Bool) (xs : List A) {x : A} → Memᴰ x (keep p xs) → Memᴰ x xs × (p x ≡ true)
   unfolding keep
@@ -77,10 +77,10 @@ module _ {A : Type 0} where
       go true q e below = let w : y ≡ x = some-injective y x e in (Memᴰ.head (sym w), ap p (sym w) ∙ q)
       go false q e below = let r = below e in (Memᴰ.tail r.0, r.1)
 
-  pub first-none : (p : A → Bool) (xs : List A) → first p xs ≡ none → (x : A) → Memᴰ x xs → p x ≡ false
+  pub first_none : (p : A → Bool) (xs : List A) → first p xs ≡ none → (x : A) → Memᴰ x xs → p x ≡ false
   unfolding first
-  first-none p [] e x m = absurd (Memᴰ.not-nil m)
-  first-none p (y ∷ ys) e x m = go (p y) refl e (first-none p ys)
+  first_none p [] e x m = absurd (Memᴰ.not-nil m)
+  first_none p (y ∷ ys) e x m = go (p y) refl e (first_none p ys)
     where
       go : (t : Bool) → p y ≡ t → (if t then some y else first p ys) ≡ none → (first p ys ≡ none → (z : A) → Memᴰ z ys → p z ≡ false) → p x ≡ false
       go true q e below = absurd (none-ne-some y (sym e))
@@ -107,9 +107,9 @@ module _ {A B : Type 0} where
   flat_append f [] ys = refl
   flat_append f (x ∷ xs) ys = ap (λ (l : List B). f x ++ l) (flat_append f xs ys) ∙ sym (append_assoc (f x) (flat f xs) (flat f ys))
 
-  pub flat-snoc : (f : A → List B) (xs : List A) (x : A) → flat f (xs ++ x ∷ []) ≡ flat f xs ++ f x
+  pub flat_snoc : (f : A → List B) (xs : List A) (x : A) → flat f (xs ++ x ∷ []) ≡ flat f xs ++ f x
   unfolding flat
-  flat-snoc f xs x = flat_append f xs (x ∷ []) ∙ ap (λ (l : List B). flat f xs ++ l) (append-nil (f x))
+  flat_snoc f xs x = flat_append f xs (x ∷ []) ∙ ap (λ (l : List B). flat f xs ++ l) (append-nil (f x))
 
 -- the numbers from k on
 pub up_from→ : (k n : ℕ) {x : ℕ} → Memᴰ x (up_from k n) → (k ≤ x) × (x < k + n)
@@ -127,8 +127,8 @@ unfolding up_from
       | no h ↦ Memᴰ.tail (→up_from (suc k) n (omega arith) (omega arith))
     ]
 
-pub get_d-up_from : (f : ℕ → ℕ) (d k n i : ℕ) → i < n → get_or (map f (up_from k n)) i d ≡ f (k + i)
+pub get_d_up_from : (f : ℕ → ℕ) (d k n i : ℕ) → i < n → get_or (map f (up_from k n)) i d ≡ f (k + i)
 unfolding up_from
-get_d-up_from f d k zero i h = absurd (omega arith)
-get_d-up_from f d k (suc n) zero h = ap f (omega arith)
-get_d-up_from f d k (suc n) (suc i) h = get_d-up_from f d (suc k) n i (omega arith) ∙ ap f (omega arith)
+get_d_up_from f d k zero i h = absurd (omega arith)
+get_d_up_from f d k (suc n) zero h = ap f (omega arith)
+get_d_up_from f d k (suc n) (suc i) h = get_d_up_from f d (suc k) n i (omega arith) ∙ ap f (omega arith)

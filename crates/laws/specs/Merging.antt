@@ -13,7 +13,7 @@ use Rattle.laws.specs.Tests.{left, right, both, same_tests}
 use Rattle.laws.specs.ListLaws.{Sub, any→}
 use Rattle.laws.specs.Rising as rising
 use Rattle.laws.specs.Rising.{nil, cons}
-use Rattle.laws.specs.Distinct.{Sorted, tri, less, more, equal, put-less, put-more, put-equal, distinct→, same_set→, some_two-in, some_two-sub}
+use Rattle.laws.specs.Distinct.{Sorted, tri, less, more, equal, put_less, put_more, put_equal, distinct→, same_set→, some_two_in, some_two_sub}
 
 -- ---- sets in order
 
@@ -21,75 +21,75 @@ use Rattle.laws.specs.Distinct.{Sorted, tri, less, more, equal, put-less, put-mo
 abbrev pub Above : ℕ → List WriteSet → Type 0
 Above = rising.Above csn_of
 
-head-below : {w : WriteSet} {ws : List WriteSet} → Sorted (w ∷ ws) → Above w.csn ws
-head-below (cons f s) = f
+head_below : {w : WriteSet} {ws : List WriteSet} → Sorted (w ∷ ws) → Above w.csn ws
+head_below (cons f s) = f
 
-pub drop-sorted : (i : ℕ) {ws : List WriteSet} → Sorted ws → Sorted (drop i ws)
-drop-sorted zero s = s
-drop-sorted (suc i) nil = nil
-drop-sorted (suc i) (cons f s) = drop-sorted i s
+pub drop_sorted : (i : ℕ) {ws : List WriteSet} → Sorted ws → Sorted (drop i ws)
+drop_sorted zero s = s
+drop_sorted (suc i) nil = nil
+drop_sorted (suc i) (cons f s) = drop_sorted i s
 
 -- ---- the next set
 
-above-cons : (n : ℕ) {w : WriteSet} {ws : List WriteSet} → n < w.csn → Above n ws → Above n (w ∷ ws)
-above-cons n h f v m = ⊎_elim (λ e. let c = ap csn_of e in omega arith) (λ k. f v k) (Memᴰ.cases_cons m)
+above_cons : (n : ℕ) {w : WriteSet} {ws : List WriteSet} → n < w.csn → Above n ws → Above n (w ∷ ws)
+above_cons n h f v m = ⊎_elim (λ e. let c = ap csn_of e in omega arith) (λ k. f v k) (Memᴰ.cases_cons m)
 
-above-append : (n : ℕ) {xs ys : List WriteSet} → Above n xs → Above n ys → Above n (xs ++ ys)
-above-append n {xs} f g v m = ⊎_elim (λ k. f v k) (λ k. g v k) (Memᴰ.append_cases xs m)
+above_append : (n : ℕ) {xs ys : List WriteSet} → Above n xs → Above n ys → Above n (xs ++ ys)
+above_append n {xs} f g v m = ⊎_elim (λ k. f v k) (λ k. g v k) (Memᴰ.append_cases xs m)
 
-above-less : (m n : ℕ) {ws : List WriteSet} → m < n → Above n ws → Above m ws
-above-less m n h f v k = let c = f v k in omega arith
+above_less : (m n : ℕ) {ws : List WriteSet} → m < n → Above n ws → Above m ws
+above_less m n h f v k = let c = f v k in omega arith
 
 -- a set below all others comes first
 put_first : (w : WriteSet) (ws : List WriteSet) → Above w.csn ws → put_set w ws ≡ w ∷ ws
 unfolding put_set
 put_first w [] f = refl
-put_first w (v ∷ vs) f = put-less w v vs (f v (Memᴰ.head refl))
+put_first w (v ∷ vs) f = put_less w v vs (f v (Memᴰ.head refl))
 
-first-distinct : (w : WriteSet) (ws : List WriteSet) → Above w.csn ws → distinct (w ∷ ws) ≡ w ∷ distinct ws
+first_distinct : (w : WriteSet) (ws : List WriteSet) → Above w.csn ws → distinct (w ∷ ws) ≡ w ∷ distinct ws
 unfolding distinct
-first-distinct w ws f = put_first w (distinct ws) (λ v m. f v (distinct→ ws m))
+first_distinct w ws f = put_first w (distinct ws) (λ v m. f v (distinct→ ws m))
 
 -- wherever it stands
-distinct-put : (w : WriteSet) (ws : List WriteSet) → distinct (w ∷ ws) ≡ put_set w (distinct ws)
+distinct_put : (w : WriteSet) (ws : List WriteSet) → distinct (w ∷ ws) ≡ put_set w (distinct ws)
 unfolding distinct
-distinct-put w ws = refl
+distinct_put w ws = refl
 
-inner-distinct : (xs : List WriteSet) (y : WriteSet) (ys : List WriteSet) → Above y.csn xs → Above y.csn ys → distinct (xs ++ y ∷ ys) ≡ y ∷ distinct (xs ++ ys)
-inner-distinct [] y ys f g = first-distinct y ys g
-inner-distinct (x ∷ xs) y ys f g =
-    distinct-put x (xs ++ y ∷ ys)
-    ∙ ap (put_set x) (inner-distinct xs y ys (λ v m. f v (Memᴰ.tail m)) g)
-    ∙ put-more x y (distinct (xs ++ ys)) (f x (Memᴰ.head refl))
-    ∙ ap (λ (l : List WriteSet). y ∷ l) (sym (distinct-put x (xs ++ ys)))
+inner_distinct : (xs : List WriteSet) (y : WriteSet) (ys : List WriteSet) → Above y.csn xs → Above y.csn ys → distinct (xs ++ y ∷ ys) ≡ y ∷ distinct (xs ++ ys)
+inner_distinct [] y ys f g = first_distinct y ys g
+inner_distinct (x ∷ xs) y ys f g =
+    distinct_put x (xs ++ y ∷ ys)
+    ∙ ap (put_set x) (inner_distinct xs y ys (λ v m. f v (Memᴰ.tail m)) g)
+    ∙ put_more x y (distinct (xs ++ ys)) (f x (Memᴰ.head refl))
+    ∙ ap (λ (l : List WriteSet). y ∷ l) (sym (distinct_put x (xs ++ ys)))
 
 module _ {x y : WriteSet} {xs ys : List WriteSet} (p : Sorted (x ∷ xs)) (q : Sorted (y ∷ ys)) where
   -- THE NEXT SET IS THE ONE WITH THE SMALLER CSN
-  pub next-first : x.csn < y.csn → distinct (x ∷ xs ++ y ∷ ys) ≡ x ∷ distinct (xs ++ y ∷ ys)
-  next-first h =
-      first-distinct x (xs ++ y ∷ ys)
-      (above-append x.csn (head-below p) (above-cons x.csn h (above-less x.csn y.csn h (head-below q))))
+  pub next_first : x.csn < y.csn → distinct (x ∷ xs ++ y ∷ ys) ≡ x ∷ distinct (xs ++ y ∷ ys)
+  next_first h =
+      first_distinct x (xs ++ y ∷ ys)
+      (above_append x.csn (head_below p) (above_cons x.csn h (above_less x.csn y.csn h (head_below q))))
 
-  pub next-second : y.csn < x.csn → distinct (x ∷ xs ++ y ∷ ys) ≡ y ∷ distinct (x ∷ xs ++ ys)
-  next-second h = inner-distinct (x ∷ xs) y ys (above-cons y.csn h (above-less y.csn x.csn h (head-below p))) (head-below q)
+  pub next_second : y.csn < x.csn → distinct (x ∷ xs ++ y ∷ ys) ≡ y ∷ distinct (x ∷ xs ++ ys)
+  next_second h = inner_distinct (x ∷ xs) y ys (above_cons y.csn h (above_less y.csn x.csn h (head_below p))) (head_below q)
 
   -- of one csn, both are passed, and the second stands for both
   pub next_both : x.csn ≡ y.csn → distinct (x ∷ xs ++ y ∷ ys) ≡ y ∷ distinct (xs ++ ys)
   next_both e =
-      let f : Above y.csn xs = λ v m. let c = head-below p v m in omega arith in
-      distinct-put x (xs ++ y ∷ ys) ∙ ap (put_set x) (inner-distinct xs y ys f (head-below q)) ∙ put-equal x y (distinct (xs ++ ys)) e
+      let f : Above y.csn xs = λ v m. let c = head_below p v m in omega arith in
+      distinct_put x (xs ++ y ∷ ys) ∙ ap (put_set x) (inner_distinct xs y ys f (head_below q)) ∙ put_equal x y (distinct (xs ++ ys)) e
 
 -- where one list is used up, the next set is the other's
-pub next-left : {x : WriteSet} {xs : List WriteSet} → Sorted (x ∷ xs) → distinct (x ∷ xs ++ []) ≡ x ∷ distinct (xs ++ [])
-next-left {x} {xs} p = first-distinct x (xs ++ []) (above-append x.csn (head-below p) (λ v m. absurd (Memᴰ.not-nil m)))
+pub next_left : {x : WriteSet} {xs : List WriteSet} → Sorted (x ∷ xs) → distinct (x ∷ xs ++ []) ≡ x ∷ distinct (xs ++ [])
+next_left {x} {xs} p = first_distinct x (xs ++ []) (above_append x.csn (head_below p) (λ v m. absurd (Memᴰ.not-nil m)))
 
-pub next-right : {y : WriteSet} {ys : List WriteSet} → Sorted (y ∷ ys) → distinct (y ∷ ys) ≡ y ∷ distinct ys
-next-right {y} {ys} q = first-distinct y ys (head-below q)
+pub next_right : {y : WriteSet} {ys : List WriteSet} → Sorted (y ∷ ys) → distinct (y ∷ ys) ≡ y ∷ distinct ys
+next_right {y} {ys} q = first_distinct y ys (head_below q)
 
 -- so sets in csn order are their own distinct sets
-pub distinct-sorted : {ws : List WriteSet} → Sorted ws → distinct ws ≡ ws
-distinct-sorted nil = unfold distinct in refl
-distinct-sorted (cons {x = w} f s) = next-right (cons f s) ∙ ap (λ (l : List WriteSet). w ∷ l) (distinct-sorted s)
+pub distinct_sorted : {ws : List WriteSet} → Sorted ws → distinct ws ≡ ws
+distinct_sorted nil = unfold distinct in refl
+distinct_sorted (cons {x = w} f s) = next_right (cons f s) ∙ ap (λ (l : List WriteSet). w ∷ l) (distinct_sorted s)
 
 -- ---- how many
 
@@ -98,59 +98,59 @@ unfolding put_set
 put_some w [] = omega arith
 put_some w (v ∷ vs) =
     elim (tri w.csn v.csn) [
-      | less h ↦ rw (put-less w v vs h) (omega arith)
-      | more h ↦ rw (put-more w v vs h) (omega arith)
-      | equal h ↦ rw (put-equal w v vs h) (omega arith)
+      | less h ↦ rw (put_less w v vs h) (omega arith)
+      | more h ↦ rw (put_more w v vs h) (omega arith)
+      | equal h ↦ rw (put_equal w v vs h) (omega arith)
     ]
 
-put-le : (w : WriteSet) (ws : List WriteSet) → length (put_set w ws) ≤ 1 + length ws
+put_le : (w : WriteSet) (ws : List WriteSet) → length (put_set w ws) ≤ 1 + length ws
 unfolding put_set
-put-le w [] = omega arith
-put-le w (v ∷ vs) =
+put_le w [] = omega arith
+put_le w (v ∷ vs) =
     elim (tri w.csn v.csn) [
-      | less h ↦ rw (put-less w v vs h) (omega arith)
-      | more h ↦ rw (put-more w v vs h) (omega (arith, put-le w vs))
-      | equal h ↦ rw (put-equal w v vs h) (omega arith)
+      | less h ↦ rw (put_less w v vs h) (omega arith)
+      | more h ↦ rw (put_more w v vs h) (omega (arith, put_le w vs))
+      | equal h ↦ rw (put_equal w v vs h) (omega arith)
     ]
 
 -- no more than there are, and some if there are some
-pub distinct-le : (ws : List WriteSet) → length (distinct ws) ≤ length ws
+pub distinct_le : (ws : List WriteSet) → length (distinct ws) ≤ length ws
 unfolding distinct
-distinct-le [] = omega arith
-distinct-le (w ∷ ws) = omega (arith, put-le w (distinct ws), distinct-le ws)
+distinct_le [] = omega arith
+distinct_le (w ∷ ws) = omega (arith, put_le w (distinct ws), distinct_le ws)
 
-pub distinct-some : (ws : List WriteSet) → 0 < length ws → 0 < length (distinct ws)
+pub distinct_some : (ws : List WriteSet) → 0 < length ws → 0 < length (distinct ws)
 unfolding distinct
-distinct-some [] h = absurd (omega arith)
-distinct-some (w ∷ ws) h = put_some w (distinct ws)
+distinct_some [] h = absurd (omega arith)
+distinct_some (w ∷ ws) h = put_some w (distinct ws)
 
 -- ---- clashes
 
-same_record-refl : (a : Record) → same_record a a ≡ true
+same_record_refl : (a : Record) → same_record a a ≡ true
 unfolding same_record
-same_record-refl a = both (eq-eqb a.kind a.kind refl) (both (eq-eqb a.key a.key refl) (eq-eqb a.value a.value refl))
+same_record_refl a = both (eq-eqb a.kind a.kind refl) (both (eq-eqb a.key a.key refl) (eq-eqb a.value a.value refl))
 
-same_records-refl : (rs : List Record) → same_records rs rs ≡ true
+same_records_refl : (rs : List Record) → same_records rs rs ≡ true
 unfolding same_records
-same_records-refl [] = refl
-same_records-refl (r ∷ rs) = both (same_record-refl r) (same_records-refl rs)
+same_records_refl [] = refl
+same_records_refl (r ∷ rs) = both (same_record_refl r) (same_records_refl rs)
 
-pub same_set-refl : (w : WriteSet) → same_set w w ≡ true
+pub same_set_refl : (w : WriteSet) → same_set w w ≡ true
 unfolding same_set
-same_set-refl w = both (eq-eqb w.csn w.csn refl) (both (eq-eqb w.sen w.sen refl) (same_records-refl w.records))
+same_set_refl w = both (eq-eqb w.csn w.csn refl) (both (eq-eqb w.sen w.sen refl) (same_records_refl w.records))
 
 -- what a clash is
 pub clash→ : (v w : WriteSet) → clash v w ≡ true → (v.csn ≡ w.csn) × (v ≡ w → ⊥)
 unfolding clash
 clash→ v w e = (
   eqb-true v.csn w.csn (left _ _ e),
-  λ q. true≢false (sym (same_set-refl v) ∙ ap (same_set v) q ∙ not-true (same_set v w) (right _ _ e)),
+  λ q. true≢false (sym (same_set_refl v) ∙ ap (same_set v) q ∙ not-true (same_set v w) (right _ _ e)),
 )
 
 -- sets of one csn that do not clash are equal
-pub clash-not : (v w : WriteSet) → v.csn ≡ w.csn → clash v w ≡ false → v ≡ w
+pub clash_not : (v w : WriteSet) → v.csn ≡ w.csn → clash v w ≡ false → v ≡ w
 unfolding clash
-clash-not v w e d = go (same_set v w) refl
+clash_not v w e d = go (same_set v w) refl
   where
     go : (t : Bool) → same_set v w ≡ t → v ≡ w
     go true p = same_set→ v w p
@@ -165,15 +165,15 @@ passed→ z zs h e =
     let k = clash→ p.0 q.0 q.2 in
     ⊎_elim
     (λ a. ⊎_elim (λ b. absurd (k.1 (a ∙ sym b))) (λ b. absurd (k.1 (a ∙ sym (h q.0 b (sym k.0 ∙ ap csn_of a))))) (Memᴰ.cases_cons q.1))
-    (λ a. ⊎_elim (λ b. absurd (k.1 (h p.0 a (k.0 ∙ ap csn_of b) ∙ sym b))) (λ b. some_two-in clash a b q.2) (Memᴰ.cases_cons q.1))
+    (λ a. ⊎_elim (λ b. absurd (k.1 (h p.0 a (k.0 ∙ ap csn_of b) ∙ sym b))) (λ b. some_two_in clash a b q.2) (Memᴰ.cases_cons q.1))
     (Memᴰ.cases_cons p.1)
 
 -- a set that clashes with none may be passed
 passed : (z : WriteSet) (zs : List WriteSet) → ((v : WriteSet) → Memᴰ v zs → v.csn ≡ z.csn → v ≡ z) → some_two clash (z ∷ zs) ≡ some_two clash zs
-passed z zs h = same_tests _ _ (passed→ z zs h) (some_two-sub clash (λ v m. Memᴰ.tail m))
+passed z zs h = same_tests _ _ (passed→ z zs h) (some_two_sub clash (λ v m. Memᴰ.tail m))
 
-passed-below : (z : WriteSet) (zs : List WriteSet) → Above z.csn zs → some_two clash (z ∷ zs) ≡ some_two clash zs
-passed-below z zs f = passed z zs (λ v m e. let c = f v m in absurd (omega arith))
+passed_below : (z : WriteSet) (zs : List WriteSet) → Above z.csn zs → some_two clash (z ∷ zs) ≡ some_two clash zs
+passed_below z zs f = passed z zs (λ v m e. let c = f v m in absurd (omega arith))
 
 to_front : (xs : List WriteSet) (y : WriteSet) (ys : List WriteSet) → Sub (xs ++ y ∷ ys) (y ∷ xs ++ ys)
 to_front xs y ys v m =
@@ -188,39 +188,39 @@ from_front xs y ys v m =
     (Memᴰ.cases_cons m)
 
 fronted : (xs : List WriteSet) (y : WriteSet) (ys : List WriteSet) → some_two clash (xs ++ y ∷ ys) ≡ some_two clash (y ∷ xs ++ ys)
-fronted xs y ys = same_tests _ _ (some_two-sub clash (to_front xs y ys)) (some_two-sub clash (from_front xs y ys))
+fronted xs y ys = same_tests _ _ (some_two_sub clash (to_front xs y ys)) (some_two_sub clash (from_front xs y ys))
 
 -- sets in csn order do not clash
-pub sorted-clash : {ws : List WriteSet} → Sorted ws → some_two clash ws ≡ false
+pub sorted_clash : {ws : List WriteSet} → Sorted ws → some_two clash ws ≡ false
 unfolding some_two any
-sorted-clash nil = refl
-sorted-clash (cons {x = w} {xs = ws} f s) = passed-below w ws f ∙ sorted-clash s
+sorted_clash nil = refl
+sorted_clash (cons {x = w} {xs = ws} f s) = passed_below w ws f ∙ sorted_clash s
 
 module _ {x y : WriteSet} {xs ys : List WriteSet} (p : Sorted (x ∷ xs)) (q : Sorted (y ∷ ys)) where
   -- THE SET WITH THE SMALLER CSN CLASHES WITH NONE
-  pub clash-first : x.csn < y.csn → some_two clash (x ∷ xs ++ y ∷ ys) ≡ some_two clash (xs ++ y ∷ ys)
-  clash-first h =
-      passed-below x (xs ++ y ∷ ys)
-      (above-append x.csn (head-below p) (above-cons x.csn h (above-less x.csn y.csn h (head-below q))))
+  pub clash_first : x.csn < y.csn → some_two clash (x ∷ xs ++ y ∷ ys) ≡ some_two clash (xs ++ y ∷ ys)
+  clash_first h =
+      passed_below x (xs ++ y ∷ ys)
+      (above_append x.csn (head_below p) (above_cons x.csn h (above_less x.csn y.csn h (head_below q))))
 
-  pub clash-second : y.csn < x.csn → some_two clash (x ∷ xs ++ y ∷ ys) ≡ some_two clash (x ∷ xs ++ ys)
-  clash-second h =
+  pub clash_second : y.csn < x.csn → some_two clash (x ∷ xs ++ y ∷ ys) ≡ some_two clash (x ∷ xs ++ ys)
+  clash_second h =
       fronted (x ∷ xs) y ys
-      ∙ passed-below y (x ∷ xs ++ ys)
-      (above-append y.csn {xs = x ∷ xs} (above-cons y.csn h (above-less y.csn x.csn h (head-below p))) (head-below q))
+      ∙ passed_below y (x ∷ xs ++ ys)
+      (above_append y.csn {xs = x ∷ xs} (above_cons y.csn h (above_less y.csn x.csn h (head_below p))) (head_below q))
 
   -- equal sets clash with none
-  pub clash-both : x ≡ y → some_two clash (x ∷ xs ++ y ∷ ys) ≡ some_two clash (xs ++ ys)
-  clash-both e =
+  pub clash_both : x ≡ y → some_two clash (x ∷ xs ++ y ∷ ys) ≡ some_two clash (xs ++ ys)
+  clash_both e =
       let c : x.csn ≡ y.csn = ap csn_of e in
-      let f : Above y.csn (xs ++ ys) = above-append y.csn (λ v m. let k = head-below p v m in omega arith) (head-below q) in
+      let f : Above y.csn (xs ++ ys) = above_append y.csn (λ v m. let k = head_below p v m in omega arith) (head_below q) in
       let g : (v : WriteSet) → Memᴰ v (xs ++ y ∷ ys) → v.csn ≡ x.csn → v ≡ x =
       λ v m d. ⊎_elim (λ k. k ∙ sym e) (λ k. let o = f v k in absurd (omega arith)) (Memᴰ.cases_cons (to_front xs y ys v m)) in
-      passed x (xs ++ y ∷ ys) g ∙ fronted xs y ys ∙ passed-below y (xs ++ ys) f
+      passed x (xs ++ y ∷ ys) g ∙ fronted xs y ys ∙ passed_below y (xs ++ ys) f
 
 -- where one list is used up, there is no clash
-pub clash-left : (xs : List WriteSet) → Sorted xs → some_two clash (xs ++ []) ≡ false
-clash-left xs p = ap (some_two clash) (append-nil xs) ∙ sorted-clash p
+pub clash_left : (xs : List WriteSet) → Sorted xs → some_two clash (xs ++ []) ≡ false
+clash_left xs p = ap (some_two clash) (append-nil xs) ∙ sorted_clash p
 
-pub clash-right : (ys : List WriteSet) → Sorted ys → some_two clash ([] ++ ys) ≡ false
-clash-right ys q = sorted-clash q
+pub clash_right : (ys : List WriteSet) → Sorted ys → some_two clash ([] ++ ys) ≡ false
+clash_right ys q = sorted_clash q

@@ -10,18 +10,18 @@ use Rattle.rules.specs.Numbers.{master_of}
 use Rattle.rules.specs.Sheet.{Sheet, in_roster, sound_sheet, sheet_bytes, read_sheet}
 use Rattle.rules.specs.Gathering.{Offer, sound_of, empty_sheet, with_offer, joined}
 use Rattle.rules.specs.Refused.{Outcome, done, sheet_room, open_outcome, offered_set, offered_notice, offer_to, put_outcome, notice_outcome, join_sheets, join_outcome}
-use Rattle.laws.specs.SheetLaws.{read-written}
-use Rattle.laws.specs.GatherSound.{Head, gathered-sound, gathered_none}
+use Rattle.laws.specs.SheetLaws.{read_written}
+use Rattle.laws.specs.GatherSound.{Head, gathered_sound, gathered_none}
 use Rattle.laws.specs.Trees.{Number, Tree, opened, put, notice, join, given, paper, and_then, ends, epoch_of, roster_of, gathered_in}
 use Rattle.laws.specs.NotRefused.{then→, open→, →open, offer→, →offer, →join}
-use Rattle.laws.specs.Demand3.{in-epoch, in-roster, ended-read, taken, agree, ended, demand-3}
-use Rattle.laws.specs.FairTrees.{GoodSet, GoodNotice, FairTree, fair-head}
+use Rattle.laws.specs.Demand3.{in_epoch, in_roster_lem, ended_read, taken, agree, ended, demand_3}
+use Rattle.laws.specs.FairTrees.{GoodSet, GoodNotice, FairTree, fair_head}
 
 -- ---- one operation on a sheet that is there
 
-offer-goes : (s : Bytes) (x : Sheet) (o : Option Offer) (y : Offer) (f m room : ℕ) → read_sheet s ≡ some x → o ≡ some y → f ≡ x.epoch → in_roster x.roster m ≡ true → sheet_room ≤ room
+offer_goes : (s : Bytes) (x : Sheet) (o : Option Offer) (y : Offer) (f m room : ℕ) → read_sheet s ≡ some x → o ≡ some y → f ≡ x.epoch → in_roster x.roster m ≡ true → sheet_room ≤ room
     → offer_to (read_sheet s) o f m room ≡ done (sheet_bytes (with_offer x y))
-offer-goes s x o y f m room p q e i h = ap₂ (λ (a : Option Sheet) (b : Option Offer). offer_to a b f m room) p q ∙ →offer x y f m room e i h
+offer_goes s x o y f m room p q e i h = ap₂ (λ (a : Option Sheet) (b : Option Offer). offer_to a b f m room) p q ∙ →offer x y f m room e i h
 
 join_goes : (s v : Bytes) (x y : Sheet) (room : ℕ) → read_sheet s ≡ some x → read_sheet v ≡ some y → x.epoch ≡ y.epoch → x.roster ≡ y.roster → sheet_room ≤ room
     → join_outcome s v room ≡ done (sheet_bytes (joined x y))
@@ -31,19 +31,19 @@ join_goes s v x y room p q e r h = ap₂ (λ (a b : Option Sheet). join_sheets a
 -- ---- a tree that ended, and one operation more
 
 module _ (e r : ℕ) (t : Tree) (s : Bytes) (p : ends paper t ≡ done s) (f : FairTree e r t) where
-  tree-read : read_sheet s ≡ some (gathered_in t)
-  tree-read = ended-read t s (ended t s p)
+  tree_read : read_sheet s ≡ some (gathered_in t)
+  tree_read = ended_read t s (ended t s p)
 
-  tree-epoch : e ≡ (gathered_in t).epoch
-  tree-epoch = sym (fair-head e r t f).0 ∙ sym (in-epoch t)
+  tree_epoch : e ≡ (gathered_in t).epoch
+  tree_epoch = sym (fair_head e r t f).0 ∙ sym (in_epoch t)
 
-  tree-roster : r ≡ (gathered_in t).roster
-  tree-roster = sym (fair-head e r t f).1 ∙ sym (in-roster t)
+  tree_roster : r ≡ (gathered_in t).roster
+  tree_roster = sym (fair_head e r t f).1 ∙ sym (in_roster_lem t)
 
   one_more : (o : Option Offer) (y : Offer) (g m room : ℕ) → o ≡ some y → g ≡ e → in_roster r m ≡ true → sheet_room ≤ room
       → offer_to (read_sheet s) o g m room ≡ done (sheet_bytes (with_offer (gathered_in t) y))
   one_more o y g m room q c i h =
-      offer-goes s (gathered_in t) o y g m room tree-read q (c ∙ tree-epoch) (sym (ap (λ (n : ℕ). in_roster n m) tree-roster) ∙ i) h
+      offer_goes s (gathered_in t) o y g m room tree_read q (c ∙ tree_epoch) (sym (ap (λ (n : ℕ). in_roster n m) tree_roster) ∙ i) h
 
 -- a fair tree ends
 goes : (e r : ℕ) → Head e r → (t : Tree) → FairTree e r t → (b : Bytes) × (ends paper t ≡ done b)
@@ -52,19 +52,19 @@ goes e r k (opened f q room) h =
     (_, →open f.value q.value room (ap (leb 1) h.0 ∙ k.epoch) (ap (leb 1) h.1 ∙ k.roster) h.2)
 goes e r k (put t f sen csn b room) h =
     let w = goes e r k t h.0 in
-    let o = h.2.well-formed in
+    let o = h.2.well_formed_lem in
     let c : offered_set f sen csn.value b ≡ some o.0 = ap (λ (g : ℕ). offered_set g sen csn.value b) h.1 ∙ o.1 in (
       _,
       ap (λ (z : Outcome Bytes). and_then z (λ s. put_outcome s f sen csn.value b room)) w.1
-          ∙ one_more e r t w.0 w.1 h.0 (offered_set f sen csn.value b) o.0 f (master_of csn.value) room c h.1 h.2.in-roster h.3,
+          ∙ one_more e r t w.0 w.1 h.0 (offered_set f sen csn.value b) o.0 f (master_of csn.value) room c h.1 h.2.in_roster_lem h.3,
     )
 goes e r k (notice t f m n room) h =
     let w = goes e r k t h.0 in
-    let o = h.2.well-formed in
+    let o = h.2.well_formed_lem in
     let c : offered_notice f m n ≡ some o.0 = ap (λ (g : ℕ). offered_notice g m n) h.1 ∙ o.1 in (
       _,
       ap (λ (z : Outcome Bytes). and_then z (λ s. notice_outcome s f m n room)) w.1
-          ∙ one_more e r t w.0 w.1 h.0 (offered_notice f m n) o.0 f m room c h.1 h.2.in-roster h.3,
+          ∙ one_more e r t w.0 w.1 h.0 (offered_notice f m n) o.0 f m room c h.1 h.2.in_roster_lem h.3,
     )
 goes e r k (join t u room) h =
     let w = goes e r k t h.0 in
@@ -72,36 +72,36 @@ goes e r k (join t u room) h =
       _,
       ap₂ (λ (y z : Outcome Bytes). and_then y (λ a. and_then z (λ b. join_outcome a b room))) w.1 v.1
           ∙ join_goes w.0 v.0 (gathered_in t) (gathered_in u) room
-          (tree-read e r t w.0 w.1 h.0) (tree-read e r u v.0 v.1 h.1)
-          (sym (tree-epoch e r t w.0 w.1 h.0) ∙ tree-epoch e r u v.0 v.1 h.1)
-          (sym (tree-roster e r t w.0 w.1 h.0) ∙ tree-roster e r u v.0 v.1 h.1) h.2,
+          (tree_read e r t w.0 w.1 h.0) (tree_read e r u v.0 v.1 h.1)
+          (sym (tree_epoch e r t w.0 w.1 h.0) ∙ tree_epoch e r u v.0 v.1 h.1)
+          (sym (tree_roster e r t w.0 w.1 h.0) ∙ tree_roster e r u v.0 v.1 h.1) h.2,
     )
 goes e r k (given b p) h = (b, refl)
 
 -- GATHERING NEVER GETS STUCK
 pub never_stuck : (e r : ℕ) → Head e r → (t : Tree) → FairTree e r t → ends paper t ≡ done (sheet_bytes (gathered_in t))
-never_stuck e r k t f = let w = goes e r k t f in w.1 ∙ ap done (demand-3 t w.0 w.1)
+never_stuck e r k t f = let w = goes e r k t f in w.1 ∙ ap done (demand_3 t w.0 w.1)
 
 -- EVERY TREE THAT IS NOT REFUSED IS FAIR (and its head is one that a sheet can have: `ended`)
-pub fair-ended : (t : Tree) (b : Bytes) → ends paper t ≡ done b → FairTree (epoch_of t) (roster_of t) t
+pub fair_ended : (t : Tree) (b : Bytes) → ends paper t ≡ done b → FairTree (epoch_of t) (roster_of t) t
 unfolding FairTree ends epoch_of roster_of put_outcome notice_outcome
-fair-ended (opened e r room) b p = (refl, refl, (open→ e.value r.value room b p).3)
-fair-ended (put t f sen csn rs room) b p =
+fair_ended (opened e r room) b p = (refl, refl, (open→ e.value r.value room b p).3)
+fair_ended (put t f sen csn rs room) b p =
     let q = then→ (ends paper t) (λ s. put_outcome s f sen csn.value rs room) b p in
     let w = taken t q.0 (offered_set f sen csn.value rs) f (master_of csn.value) room b (ended t q.0 q.1) q.2 in
     let c : offered_set (epoch_of t) sen csn.value rs ≡ some w.0 = ap (λ (g : ℕ). offered_set g sen csn.value rs) (sym w.2) ∙ w.1 in
-    (fair-ended t q.0 q.1, w.2, record { well-formed = (w.0, c); in-roster = w.3 }, w.5)
-fair-ended (notice t f m n room) b p =
+    (fair_ended t q.0 q.1, w.2, record { well_formed_lem = (w.0, c); in_roster_lem = w.3 }, w.5)
+fair_ended (notice t f m n room) b p =
     let q = then→ (ends paper t) (λ s. notice_outcome s f m n room) b p in
     let w = taken t q.0 (offered_notice f m n) f m room b (ended t q.0 q.1) q.2 in
     let c : offered_notice (epoch_of t) m n ≡ some w.0 = ap (λ (g : ℕ). offered_notice g m n) (sym w.2) ∙ w.1 in
-    (fair-ended t q.0 q.1, w.2, record { well-formed = (w.0, c); in-roster = w.3 }, w.5)
-fair-ended (join t u room) b p =
+    (fair_ended t q.0 q.1, w.2, record { well_formed_lem = (w.0, c); in_roster_lem = w.3 }, w.5)
+fair_ended (join t u room) b p =
     let q = then→ (ends paper t) (λ x. and_then (ends paper u) (λ y. join_outcome x y room)) b p in
     let v = then→ (ends paper u) (λ y. join_outcome q.0 y room) b q.2 in
     let w = agree t u room q.0 v.0 b (ended t q.0 q.1) (ended u v.0 v.1) v.2 in
-    (fair-ended t q.0 q.1, subst (λ (n : ℕ). FairTree n (roster_of t) u) (sym w.0) (subst (λ (n : ℕ). FairTree (epoch_of u) n u) (sym w.1) (fair-ended u v.0 v.1)), w.3)
-fair-ended (given s g) b p = (refl, refl)
+    (fair_ended t q.0 q.1, subst (λ (n : ℕ). FairTree n (roster_of t) u) (sym w.0) (subst (λ (n : ℕ). FairTree (epoch_of u) n u) (sym w.1) (fair_ended u v.0 v.1)), w.3)
+fair_ended (given s g) b p = (refl, refl)
 
 -- ---- offers, by the freshly opened sheet
 
@@ -112,40 +112,40 @@ pub record JustWhen (P Q : Type 0) : Type 0 where
 
 module _ (e r : ℕ) (k : Head e r) where
   -- a sheet of such an epoch and roster is opened
-  pub opens-fresh : open_outcome e r sheet_room ≡ done (sheet_bytes (empty_sheet e r))
-  opens-fresh = →open e r sheet_room k.epoch k.roster (omega arith)
+  pub opens_fresh : open_outcome e r sheet_room ≡ done (sheet_bytes (empty_sheet e r))
+  opens_fresh = →open e r sheet_room k.epoch k.roster (omega arith)
 
   -- and comes back from its bytes
-  empty-read : read_sheet (sheet_bytes (empty_sheet e r)) ≡ some (empty_sheet e r)
-  empty-read =
-      read-written (empty_sheet e r) (sym (ap sound_sheet (gathered_none e r)) ∙ gathered-sound e r [] k (λ o m. absurd (Memᴰ.not-nil m)))
+  empty_read : read_sheet (sheet_bytes (empty_sheet e r)) ≡ some (empty_sheet e r)
+  empty_read =
+      read_written (empty_sheet e r) (sym (ap sound_sheet (gathered_none e r)) ∙ gathered_sound e r [] k (λ o m. absurd (Memᴰ.not-nil m)))
 
-  fresh-takes : (o : Option Offer) (y : Offer) (m : ℕ) → o ≡ some y → in_roster r m ≡ true
+  fresh_takes : (o : Option Offer) (y : Offer) (m : ℕ) → o ≡ some y → in_roster r m ≡ true
       → offer_to (read_sheet (sheet_bytes (empty_sheet e r))) o e m sheet_room ≡ done (sheet_bytes (with_offer (empty_sheet e r) y))
   unfolding empty_sheet sound_of
-  fresh-takes o y m q i = offer-goes (sheet_bytes (empty_sheet e r)) (empty_sheet e r) o y e m sheet_room empty-read q refl i (omega arith)
+  fresh_takes o y m q i = offer_goes (sheet_bytes (empty_sheet e r)) (empty_sheet e r) o y e m sheet_room empty_read q refl i (omega arith)
 
-  fresh-took : (o : Option Offer) (m : ℕ) (c : Bytes) → offer_to (read_sheet (sheet_bytes (empty_sheet e r))) o e m sheet_room ≡ done c
+  fresh_took : (o : Option Offer) (m : ℕ) (c : Bytes) → offer_to (read_sheet (sheet_bytes (empty_sheet e r))) o e m sheet_room ≡ done c
       → (y : Offer) × (o ≡ some y) × (in_roster r m ≡ true)
   unfolding empty_sheet sound_of
-  fresh-took o m c p =
-      let q = offer→ (empty_sheet e r) o e m sheet_room c (sym (ap (λ (g : Option Sheet). offer_to g o e m sheet_room) empty-read) ∙ p) in
+  fresh_took o m c p =
+      let q = offer→ (empty_sheet e r) o e m sheet_room c (sym (ap (λ (g : Option Sheet). offer_to g o e m sheet_room) empty_read) ∙ p) in
       (q.0, q.1, q.3)
 
   -- A SET IS GOOD JUST WHEN PUTTING IT INTO THE FRESHLY OPENED SHEET IS NOT REFUSED
-  pub good-set-put : (sen : ℕ) (csn : Number 8) (b : Bytes)
+  pub good_set_put : (sen : ℕ) (csn : Number 8) (b : Bytes)
       → JustWhen (GoodSet e r sen csn.value b) ((c : Bytes) × (put_outcome (sheet_bytes (empty_sheet e r)) e sen csn.value b sheet_room ≡ done c))
   unfolding put_outcome
-  good-set-put sen csn b = record {
-    there = λ g. (_, fresh-takes (offered_set e sen csn.value b) g.well-formed.0 (master_of csn.value) g.well-formed.1 g.in-roster);
-    back = λ p. let q = fresh-took (offered_set e sen csn.value b) (master_of csn.value) p.0 p.1 in record { well-formed = (q.0, q.1); in-roster = q.2 };
+  good_set_put sen csn b = record {
+    there = λ g. (_, fresh_takes (offered_set e sen csn.value b) g.well_formed_lem.0 (master_of csn.value) g.well_formed_lem.1 g.in_roster_lem);
+    back = λ p. let q = fresh_took (offered_set e sen csn.value b) (master_of csn.value) p.0 p.1 in record { well_formed_lem = (q.0, q.1); in_roster_lem = q.2 };
   }
 
   -- AND A NOTICE JUST WHEN ITS NOTICE IS NOT
-  pub good-notice-put : (m n : ℕ)
+  pub good_notice_put : (m n : ℕ)
       → JustWhen (GoodNotice e r m n) ((c : Bytes) × (notice_outcome (sheet_bytes (empty_sheet e r)) e m n sheet_room ≡ done c))
   unfolding notice_outcome
-  good-notice-put m n = record {
-    there = λ g. (_, fresh-takes (offered_notice e m n) g.well-formed.0 m g.well-formed.1 g.in-roster);
-    back = λ p. let q = fresh-took (offered_notice e m n) m p.0 p.1 in record { well-formed = (q.0, q.1); in-roster = q.2 };
+  good_notice_put m n = record {
+    there = λ g. (_, fresh_takes (offered_notice e m n) g.well_formed_lem.0 m g.well_formed_lem.1 g.in_roster_lem);
+    back = λ p. let q = fresh_took (offered_notice e m n) m p.0 p.1 in record { well_formed_lem = (q.0, q.1); in_roster_lem = q.2 };
   }

@@ -19,9 +19,9 @@ use Rattle.rules.specs.Closing.{present, fit_record}
 use Rattle.rules.specs.Becoming.{mark_after, applied, applied_to, value_by, is_deleted, row_after, inserted_row, put_row, put_rows, rows_after}
 use Rattle.laws.specs.ListLaws.{Sub, →any, keep→, →keep, flat→, →flat}
 use Rattle.laws.specs.RegisterLaws.{sound_register→}
-use Rattle.laws.specs.Rising.{Rising, nil, cons, Above, rising→, →rising, rising-unique}
+use Rattle.laws.specs.Rising.{Rising, nil, cons, Above, rising→, →rising, rising_unique}
 use Rattle.laws.specs.Choice.{Choice}
-use Rattle.laws.specs.Applied.{OneEach, one_more, each_keep, applied-each, applied-fits, applied-above}
+use Rattle.laws.specs.Applied.{OneEach, one_more, each_keep, applied_each, applied_fits, applied_above}
 
 -- ---- a row goes in among rows
 
@@ -46,10 +46,10 @@ module _ (r : Row) where
           ⊎_elim (λ e. Memᴰ.tail (below (inl e))) (λ m. ⊎_elim (λ e. Memᴰ.head e) (λ k. Memᴰ.tail (below (inr k))) (Memᴰ.cases_cons m)) d
 
   -- among rows of other keys it leaves them in order
-  put-rising : {qs : List Row} → ((q : Row) → Memᴰ q qs → q.key ≡ r.key → ⊥) → Rising key_of qs → Rising key_of (put_row r qs)
+  put_rising : {qs : List Row} → ((q : Row) → Memᴰ q qs → q.key ≡ r.key → ⊥) → Rising key_of qs → Rising key_of (put_row r qs)
   unfolding put_row
-  put-rising d nil = cons (λ y m. absurd (Memᴰ.not-nil m)) nil
-  put-rising d (cons {x = q} {xs = qs} f s) = go (ltb r.key q.key) refl (put-rising (λ p m. d p (Memᴰ.tail m)) s)
+  put_rising d nil = cons (λ y m. absurd (Memᴰ.not-nil m)) nil
+  put_rising d (cons {x = q} {xs = qs} f s) = go (ltb r.key q.key) refl (put_rising (λ p m. d p (Memᴰ.tail m)) s)
     where
       low : r.key < q.key → (y : Row) → (y ≡ q) ⊎ Memᴰ y qs → r.key < y.key
       low h y i = ⊎_elim (λ e. let c = ap key_of e in omega arith) (λ k. let c = f y k in omega arith) i
@@ -102,17 +102,17 @@ module _ (s : Sheet) (c : List WriteSet) where
   pub →row_after : (row : Row) → is_deleted (applied_to (applied c) row.key) ≡ false → Memᴰ (remaining_row row) (row_after s c row)
   →row_after row e = rw (remains row e) (Memᴰ.head refl)
 
-  pub key-stays : (row x : Row) → Memᴰ x (row_after s c row) → x.key ≡ row.key
-  key-stays row x m = ap key_of (row_after→ row x m).1
+  pub key_stays : (row x : Row) → Memᴰ x (row_after s c row) → x.key ≡ row.key
+  key_stays row x m = ap key_of (row_after→ row x m).1
 
   -- the old rows that remain are in order
-  old-rising : {rows : List Row} → Rising key_of rows → Rising key_of (flat (row_after s c) rows)
+  old_rising : {rows : List Row} → Rising key_of rows → Rising key_of (flat (row_after s c) rows)
   unfolding flat
-  old-rising nil = nil
-  old-rising (cons {x} {xs} f r) = go (is_deleted (applied_to (applied c) x.key)) refl (old-rising r)
+  old_rising nil = nil
+  old_rising (cons {x} {xs} f r) = go (is_deleted (applied_to (applied c) x.key)) refl (old_rising r)
     where
       below : (y : Row) → Memᴰ y (flat (row_after s c) xs) → x.key < y.key
-      below y m = let p = flat→ (row_after s c) xs m in let e = key-stays p.0 y p.2 in let h = f p.0 p.1 in omega arith
+      below y m = let p = flat→ (row_after s c) xs m in let e = key_stays p.0 y p.2 in let h = f p.0 p.1 in omega arith
 
       go : (t : Bool) → is_deleted (applied_to (applied c) x.key) ≡ t → Rising key_of (flat (row_after s c) xs) → Rising key_of (flat (row_after s c) (x ∷ xs))
       go true e h = rw (gone x e) h
@@ -146,59 +146,59 @@ module _ (g : Register) (s : Sheet) (c : List WriteSet) where
       (λ k. inl (flat→ (row_after s c) g.rows k))
       (put_rows→ (map (inserted_row s c) inserts) olds m)
 
-  pub →next-old : (row x : Row) → Memᴰ row g.rows → Memᴰ x (row_after s c row) → Memᴰ x (rows_after s c g.rows)
+  pub →next_old : (row x : Row) → Memᴰ row g.rows → Memᴰ x (row_after s c row) → Memᴰ x (rows_after s c g.rows)
   unfolding rows_after inserts olds
-  →next-old row x m k = →put_rows (map (inserted_row s c) inserts) olds (inr (→flat (row_after s c) m k))
+  →next_old row x m k = →put_rows (map (inserted_row s c) inserts) olds (inr (→flat (row_after s c) m k))
 
-  pub →next-insert : (r : Record) → Memᴰ r (applied c) → r.kind ≡ insert → Memᴰ (inserted_row s c r) (rows_after s c g.rows)
+  pub →next_insert : (r : Record) → Memᴰ r (applied c) → r.kind ≡ insert → Memᴰ (inserted_row s c r) (rows_after s c g.rows)
   unfolding rows_after inserts olds
-  →next-insert r m e =
+  →next_insert r m e =
       →put_rows (map (inserted_row s c) inserts) olds
       (inl (Memᴰ.map (inserted_row s c) (→keep (λ r. eqb r.kind insert) m (eq-eqb r.kind insert e))))
 
   -- an inserted key is no old row's
-  pub insert-absent : Choice g s c → (r : Record) → Memᴰ r (applied c) → r.kind ≡ insert → (row : Row) → Memᴰ row g.rows → row.key ≡ r.key → ⊥
+  pub insert_absent : Choice g s c → (r : Record) → Memᴰ r (applied c) → r.kind ≡ insert → (row : Row) → Memᴰ row g.rows → row.key ≡ r.key → ⊥
   unfolding fit_record present
-  insert-absent h r m e row k q =
-      let f : fit_record g r ≡ true = applied-fits g s c h r m in
+  insert_absent h r m e row k q =
+      let f : fit_record g r ≡ true = applied_fits g s c h r m in
       let n : not (present g r.key) ≡ true = simp (eq-eqb r.kind insert e) at f in
       false≢true (sym (not-true (present g r.key) n) ∙ →any (λ q. eqb q.key r.key) k (eq-eqb row.key r.key q))
 
   module _ (h : Choice g s c) (sound_g : sound_register g ≡ true) (sound_s : sound_sheet s ≡ true) where
-    rows-rising : Rising key_of g.rows × Above key_of 0 g.rows
-    rows-rising = rising→ key_of 0 g.rows (sound_register→ g sound_g).keys
+    rows_rising : Rising key_of g.rows × Above key_of 0 g.rows
+    rows_rising = rising→ key_of 0 g.rows (sound_register→ g sound_g).keys
 
-    inserts-rising : (rs : List Record) → OneEach rs → ((r : Record) → Memᴰ r rs → Memᴰ r inserts) → Rising key_of (put_rows (map (inserted_row s c) rs) olds)
+    inserts_rising : (rs : List Record) → OneEach rs → ((r : Record) → Memᴰ r rs → Memᴰ r inserts) → Rising key_of (put_rows (map (inserted_row s c) rs) olds)
     unfolding put_rows inserted_row olds inserts
-    inserts-rising [] d i = old-rising s c rows-rising.0
-    inserts-rising (r ∷ rs) (one_more f d) i =
+    inserts_rising [] d i = old_rising s c rows_rising.0
+    inserts_rising (r ∷ rs) (one_more f d) i =
         let k = keep→ (λ r. eqb r.kind insert) (applied c) (i r (Memᴰ.head refl)) in
-        put-rising (inserted_row s c r)
+        put_rising (inserted_row s c r)
         (λ q m e.
         ⊎_elim
         (λ j. let p = Memᴰ.of_map (inserted_row s c) rs j in f p.0 p.1 (ap key_of p.2 ∙ e))
         (λ j.
         let p = flat→ (row_after s c) g.rows j in
-        insert-absent h r k.0 (eqb-true _ _ k.1) p.0 p.1 (sym (key-stays s c p.0 q p.2) ∙ e))
+        insert_absent h r k.0 (eqb-true _ _ k.1) p.0 p.1 (sym (key_stays s c p.0 q p.2) ∙ e))
         (put_rows→ (map (inserted_row s c) rs) olds m))
-        (inserts-rising rs d (λ q m. i q (Memᴰ.tail m)))
+        (inserts_rising rs d (λ q m. i q (Memᴰ.tail m)))
 
     -- THE KEYS OF THE NEXT ROWS STRICTLY ASCEND, FROM 1 ON
-    pub next-rising : Rising key_of (rows_after s c g.rows)
+    pub next_rising : Rising key_of (rows_after s c g.rows)
     unfolding rows_after inserts olds
-    next-rising = inserts-rising inserts (each_keep _ (applied-each g s c h sound_s)) (λ r m. m)
+    next_rising = inserts_rising inserts (each_keep _ (applied_each g s c h sound_s)) (λ r m. m)
 
-    pub next-above : Above key_of 0 (rows_after s c g.rows)
+    pub next_above : Above key_of 0 (rows_after s c g.rows)
     unfolding inserted_row
-    next-above x m =
+    next_above x m =
         ⊎_elim
-        (λ p. let e = key-stays s c p.0 x p.2 in let l = rows-rising.1 p.0 p.1 in omega arith)
-        (λ p. let e = ap key_of p.3 in let l = applied-above g s c h sound_s p.0 p.1 in omega arith)
+        (λ p. let e = key_stays s c p.0 x p.2 in let l = rows_rising.1 p.0 p.1 in omega arith)
+        (λ p. let e = ap key_of p.3 in let l = applied_above g s c h sound_s p.0 p.1 in omega arith)
         (next→ x m)
 
-    pub next-ascends : ascend_from 0 (map key_of (rows_after s c g.rows)) ≡ true
-    next-ascends = →rising key_of 0 next-rising next-above
+    pub next_ascends : ascend_from 0 (map key_of (rows_after s c g.rows)) ≡ true
+    next_ascends = →rising key_of 0 next_rising next_above
 
     -- ROWS THAT ASCEND, OF WHICH EACH REMAINS OR IS INSERTED AND AMONG WHICH ALL SUCH ARE, ARE THE NEXT ROWS
-    pub next-unique : (xs : List Row) → Rising key_of xs → Sub xs (rows_after s c g.rows) → Sub (rows_after s c g.rows) xs → xs ≡ rows_after s c g.rows
-    next-unique xs r a b = rising-unique key_of r next-rising a b
+    pub next_unique : (xs : List Row) → Rising key_of xs → Sub xs (rows_after s c g.rows) → Sub (rows_after s c g.rows) xs → xs ≡ rows_after s c g.rows
+    next_unique xs r a b = rising_unique key_of r next_rising a b

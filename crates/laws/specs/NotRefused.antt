@@ -12,34 +12,34 @@ use Rattle.rules.specs.Sheet.{WriteSet, Sheet, max_sets, in_roster, sound_record
 use Rattle.rules.specs.Gathering.{Offer, a_set, a_notice, empty_sheet, with_offer, joined}
 use Rattle.rules.specs.Refused.{Outcome, refused, done, sheet_room, open_outcome, set_with, offered_set, offered_notice, offer_to, join_sheets, join_outcome}
 use Rattle.laws.specs.Tests.{left, right}
-use Rattle.laws.specs.SheetLaws.{written_read, written-records}
-use Rattle.laws.specs.Joining.{joined-sound}
+use Rattle.laws.specs.SheetLaws.{written_read, written_records}
+use Rattle.laws.specs.Joining.{joined_sound}
 use Rattle.laws.specs.Trees.{and_then}
 
 -- ---- of any outcome
 
 module _ {A : Type 0} where
-  pub refused-not : {n : ℕ} {a : A} → refused n ≡ done a → ⊥
-  refused-not p = let z : ◌≡◌ {A = ℕ} 0 1 = cc in omega arith
+  pub refused_not : {n : ℕ} {a : A} → refused n ≡ done a → ⊥
+  refused_not p = let z : ◌≡◌ {A = ℕ} 0 1 = cc in omega arith
 
-  pub done-same : {a b : A} → done a ≡ done b → a ≡ b
-  done-same p = cc
+  pub done_same : {a b : A} → done a ≡ done b → a ≡ b
+  done_same p = cc
 
-  pub refused-same : {m n : ℕ} → ◌≡◌ {A = Outcome A} (refused m) (refused n) → m ≡ n
-  refused-same p = cc
+  pub refused_same : {m n : ℕ} → ◌≡◌ {A = Outcome A} (refused m) (refused n) → m ≡ n
+  refused_same p = cc
 
   -- one refusal passed
   pub passed : (t : Bool) (n : ℕ) (o : Outcome A) (a : A) → (if t then refused n else o) ≡ done a → (t ≡ false) × (o ≡ done a)
-  passed true n o a p = absurd (refused-not p)
+  passed true n o a p = absurd (refused_not p)
   passed false n o a p = (refl, p)
 
 pub then→ : (o : Outcome Bytes) (f : Bytes → Outcome Bytes) (b : Bytes) → and_then o f ≡ done b → (a : Bytes) × (o ≡ done a) × (f a ≡ done b)
 unfolding and_then
-then→ (refused n) f b p = absurd (refused-not p)
+then→ (refused n) f b p = absurd (refused_not p)
 then→ (done a) f b p = (a, refl, p)
 
-not-zero : (n : ℕ) → eqb n 0 ≡ false → leb 1 n ≡ true
-not-zero n p = let h = eqb-false n 0 p in le-leb 1 n (omega arith)
+not_zero : (n : ℕ) → eqb n 0 ≡ false → leb 1 n ≡ true
+not_zero n p = let h = eqb-false n 0 p in le-leb 1 n (omega arith)
 
 is_some : (n : ℕ) → leb 1 n ≡ true → eqb n 0 ≡ false
 is_some n p = let h = leb-true 1 n p in ne_eqb n 0 (λ e. omega arith)
@@ -53,7 +53,7 @@ open→ e r room b p =
     let p₁ = passed _ _ _ _ p in
     let p₂ = passed _ _ _ _ p₁.1 in
     let p₃ = passed (ltb room sheet_room) 9 _ b p₂.1 in
-    (not-zero e p₁.0, not-zero r p₂.0, sym (done-same p₃.1), ltb-false room sheet_room p₃.0)
+    (not_zero e p₁.0, not_zero r p₂.0, sym (done_same p₃.1), ltb-false room sheet_room p₃.0)
 
 pub →open : (e r room : ℕ) → leb 1 e ≡ true → leb 1 r ≡ true → sheet_room ≤ room → open_outcome e r room ≡ done (sheet_bytes (empty_sheet e r))
 unfolding open_outcome
@@ -64,12 +64,12 @@ unfolding open_outcome
 pub offer→ : (s : Sheet) (o : Option Offer) (e m room : ℕ) (b : Bytes) → offer_to (some s) o e m room ≡ done b
     → (x : Offer) × (o ≡ some x) × (e ≡ s.epoch) × (in_roster s.roster m ≡ true) × (b ≡ sheet_bytes (with_offer s x)) × (sheet_room ≤ room)
 unfolding offer_to
-offer→ s none e m room b p = absurd (refused-not p)
+offer→ s none e m room b p = absurd (refused_not p)
 offer→ s (some x) e m room b p =
     let p₁ = passed _ _ _ _ p in
     let p₂ = passed _ _ _ _ p₁.1 in
     let p₃ = passed (ltb room sheet_room) 9 _ b p₂.1 in
-    (x, refl, eqb-true _ _ (not-false _ p₁.0), not-false _ p₂.0, sym (done-same p₃.1), ltb-false room sheet_room p₃.0)
+    (x, refl, eqb-true _ _ (not-false _ p₁.0), not-false _ p₂.0, sym (done_same p₃.1), ltb-false room sheet_room p₃.0)
 
 pub →offer : (s : Sheet) (x : Offer) (e m room : ℕ) → e ≡ s.epoch → in_roster s.roster m ≡ true → sheet_room ≤ room
     → offer_to (some s) (some x) e m room ≡ done (sheet_bytes (with_offer s x))
@@ -79,7 +79,7 @@ unfolding offer_to
 -- what is read of record bytes is what they decode to, and sound
 records→ : (b : Bytes) (rs : List Record) → read_records b ≡ some rs → (rs ≡ offered_records b) × (sound_records rs ≡ true)
 unfolding read_records read
-records→ b rs p = (go (well_formed offered_records sound_records records_bytes b) p, (written-records b rs p).1)
+records→ b rs p = (go (well_formed offered_records sound_records records_bytes b) p, (written_records b rs p).1)
   where
     go : (t : Bool) → (if t then some (offered_records b) else none) ≡ some rs → rs ≡ offered_records b
     go true q = sym (some-injective _ _ q)
@@ -127,20 +127,20 @@ join→ s t room b p =
     let p₁ = passed _ _ _ _ p in
     let p₂ = passed _ _ _ _ p₁.1 in
     let p₃ = passed (ltb room sheet_room) 9 _ b p₂.1 in
-    (eqb-true _ _ (not-false _ p₁.0), eqb-true _ _ (not-false _ p₂.0), sym (done-same p₃.1), ltb-false room sheet_room p₃.0)
+    (eqb-true _ _ (not-false _ p₁.0), eqb-true _ _ (not-false _ p₂.0), sym (done_same p₃.1), ltb-false room sheet_room p₃.0)
 
 pub →join : (s t : Sheet) (room : ℕ) → s.epoch ≡ t.epoch → s.roster ≡ t.roster → sheet_room ≤ room → join_sheets (some s) (some t) room ≡ done (sheet_bytes (joined s t))
 unfolding join_sheets
 →join s t room p q h = simp (eq-eqb s.epoch t.epoch p, eq-eqb s.roster t.roster q, le-ltb room sheet_room h)
 
 -- what it writes is a sound sheet
-pub join-sound : (a b : Bytes) (room : ℕ) (c : Bytes) → join_outcome a b room ≡ done c → (s : Sheet) × (sound_sheet s ≡ true) × (c ≡ sheet_bytes s)
+pub join_sound : (a b : Bytes) (room : ℕ) (c : Bytes) → join_outcome a b room ≡ done c → (s : Sheet) × (sound_sheet s ≡ true) × (c ≡ sheet_bytes s)
 unfolding join_outcome join_sheets
-join-sound a b room c p = go (read_sheet a) refl (read_sheet b) refl p
+join_sound a b room c p = go (read_sheet a) refl (read_sheet b) refl p
   where
     go : (x : Option Sheet) → read_sheet a ≡ x → (y : Option Sheet) → read_sheet b ≡ y → join_sheets x y room ≡ done c → (s : Sheet) × (sound_sheet s ≡ true) × (c ≡ sheet_bytes s)
-    go none q y k h = absurd (refused-not h)
-    go (some s) q none k h = absurd (refused-not h)
+    go none q y k h = absurd (refused_not h)
+    go (some s) q none k h = absurd (refused_not h)
     go (some s) q (some t) k h =
         let w = join→ s t room c h in
-        (joined s t, joined-sound s t (written_read a s q).1 (written_read b t k).1 w.0 w.1, w.2)
+        (joined s t, joined_sound s t (written_read a s q).1 (written_read b t k).1 w.0 w.1, w.2)

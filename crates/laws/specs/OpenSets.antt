@@ -14,53 +14,53 @@ use Rattle.rules.specs.OpenSet.{sound_open, open_set_of, empty_set, open_records
 use Rattle.laws.specs.Tests.{left, right, both}
 use Rattle.laws.specs.Says.{Says, is_le, itself, ◌also◌}
 use Rattle.laws.specs.FormLaws.{same→, same_refl}
-use Rattle.laws.specs.BytesHere.{and-true}
-use Rattle.laws.specs.SheetLaws.{records-at, records-length, records-count, records-read, written-records}
+use Rattle.laws.specs.BytesHere.{and_true}
+use Rattle.laws.specs.SheetLaws.{records_at, records_length, records_count, records_read, written_records}
 
 -- what sound records of an open set are
-pub open-says : (rs : List Record) → Says (sound_open rs) ((length rs ≤ 8) × ((ascend_from 0 (map record_key rs) ≡ true) × (all sound_record rs ≡ true)))
+pub open_says : (rs : List Record) → Says (sound_open rs) ((length rs ≤ 8) × ((ascend_from 0 (map record_key rs) ≡ true) × (all sound_record rs ≡ true)))
 unfolding sound_open
-open-says rs = is_le (length rs) 8 also itself (ascend_from 0 (map record_key rs)) also itself (all sound_record rs)
+open_says rs = is_le (length rs) 8 also itself (ascend_from 0 (map record_key rs)) also itself (all sound_record rs)
 
 -- ---- read back
 
 -- the records of a struct that was written are those it was written from
-pub open-records : (rs : List Record) → all sound_record rs ≡ true → open_records (open_set_of rs) ≡ rs
+pub open_records_lem : (rs : List Record) → all sound_record rs ≡ true → open_records (open_set_of rs) ≡ rs
 unfolding open_records open_set_of
-open-records rs h = records-at rs (records_bytes rs ++ replicate (128 - 16 * length rs) 0) 0 (replicate (128 - 16 * length rs) 0) h refl
+open_records_lem rs h = records_at rs (records_bytes rs ++ replicate (128 - 16 * length rs) 0) 0 (replicate (128 - 16 * length rs) 0) h refl
 
-same-open→ : (o p : OpenSet) → same_open o p ≡ true → o ≡ p
+same_open→ : (o p : OpenSet) → same_open o p ≡ true → o ≡ p
 unfolding same_open
-same-open→ o p e =
+same_open→ o p e =
     let c = eqb-true o.count p.count (left _ _ e) in
     let r = same→ o.records p.records (right _ _ e) in
     λ i. record { count = c i; records = r i }
 
-same-open-refl : (o : OpenSet) → same_open o o ≡ true
+same_open_refl : (o : OpenSet) → same_open o o ≡ true
 unfolding same_open
-same-open-refl o = both (eq-eqb o.count o.count refl) (same_refl o.records)
+same_open_refl o = both (eq-eqb o.count o.count refl) (same_refl o.records)
 
 -- what sound records are written as is an open set
 pub is_open : (rs : List Record) → sound_open rs ≡ true → is_open_set (open_set_of rs) ≡ true
 unfolding is_open_set
 is_open rs h =
-    let e = open-records rs ((open-says rs).told h).1.1 in
-    both (ap sound_open e ∙ h) (ap (λ (qs : List Record). same_open (open_set_of qs) (open_set_of rs)) e ∙ same-open-refl (open_set_of rs))
+    let e = open_records_lem rs ((open_says rs).told h).1.1 in
+    both (ap sound_open e ∙ h) (ap (λ (qs : List Record). same_open (open_set_of qs) (open_set_of rs)) e ∙ same_open_refl (open_set_of rs))
 
 -- and an open set is what its records, which are sound, are written as
 pub open_is : (o : OpenSet) → is_open_set o ≡ true → (o ≡ open_set_of (open_records o)) × (sound_open (open_records o) ≡ true)
 unfolding is_open_set
-open_is o h = (sym (same-open→ (open_set_of (open_records o)) o (right _ _ h)), left _ _ h)
+open_is o h = (sym (same_open→ (open_set_of (open_records o)) o (right _ _ h)), left _ _ h)
 
 -- AN OPEN SET IS READ AS IT WAS WRITTEN
-pub open-written : (rs : List Record) → sound_open rs ≡ true → read_open (open_set_of rs) ≡ some rs
+pub open_written : (rs : List Record) → sound_open rs ≡ true → read_open (open_set_of rs) ≡ some rs
 unfolding read_open
-open-written rs h = simp (is_open rs h) (ap some (open-records rs ((open-says rs).told h).1.1))
+open_written rs h = simp (is_open rs h) (ap some (open_records_lem rs ((open_says rs).told h).1.1))
 
 -- AND WHAT IS READ WAS WRITTEN SO
-pub written-open : (o : OpenSet) (rs : List Record) → read_open o ≡ some rs → (o ≡ open_set_of rs) × (sound_open rs ≡ true)
+pub written_open : (o : OpenSet) (rs : List Record) → read_open o ≡ some rs → (o ≡ open_set_of rs) × (sound_open rs ≡ true)
 unfolding read_open
-written-open o rs e = go (is_open_set o) refl e
+written_open o rs e = go (is_open_set o) refl e
   where
     go : (t : Bool) → is_open_set o ≡ t → (if t then some (open_records o) else none) ≡ some rs → (o ≡ open_set_of rs) × (sound_open rs ≡ true)
     go true p q =
@@ -70,26 +70,26 @@ written-open o rs e = go (is_open_set o) refl e
     go false p q = absurd (none-ne-some rs q)
 
 -- ONE ENCODING
-pub one-open : (rs qs : List Record) → sound_open rs ≡ true → sound_open qs ≡ true → open_set_of rs ≡ open_set_of qs → rs ≡ qs
-one-open rs qs h k e = some-injective rs qs (sym (open-written rs h) ∙ ap read_open e ∙ open-written qs k)
+pub one_open : (rs qs : List Record) → sound_open rs ≡ true → sound_open qs ≡ true → open_set_of rs ≡ open_set_of qs → rs ≡ qs
+one_open rs qs h k e = some-injective rs qs (sym (open_written rs h) ∙ ap read_open e ∙ open_written qs k)
 
 -- THE EMPTY ONE IS ALL ZERO
-pub empty-open : open_set_of [] ≡ empty_set
+pub empty_open : open_set_of [] ≡ empty_set
 unfolding open_set_of records_bytes flat
-empty-open = refl
+empty_open = refl
 
 -- ---- what decides it
 
 -- bytes that are all zero
-zeros-are : (b : Bytes) → all (λ x. eqb x 0) b ≡ true → b ≡ replicate (length b) 0
+zeros_are : (b : Bytes) → all (λ x. eqb x 0) b ≡ true → b ≡ replicate (length b) 0
 unfolding all
-zeros-are [] h = refl
-zeros-are (x ∷ xs) h = ap₂ ◌∷◌ (eqb-true x 0 (left _ _ h)) (zeros-are xs (right _ _ h))
+zeros_are [] h = refl
+zeros_are (x ∷ xs) h = ap₂ ◌∷◌ (eqb-true x 0 (left _ _ h)) (zeros_are xs (right _ _ h))
 
-are-zeros : (n : ℕ) → all (λ x. eqb x 0) (replicate n 0) ≡ true
+are_zeros : (n : ℕ) → all (λ x. eqb x 0) (replicate n 0) ≡ true
 unfolding all
-are-zeros zero = refl
-are-zeros (suc n) = both refl (are-zeros n)
+are_zeros zero = refl
+are_zeros (suc n) = both refl (are_zeros n)
 
 -- the bytes of its records, and those behind them
 abbrev pub front : OpenSet → Bytes
@@ -105,7 +105,7 @@ unfolding open_set_of
 opened o rs long h c f z =
     let n : length (behind o) ≡ 128 - 16 * length rs = simp length-drop (omega (arith, long, c)) in
     let b : o.records ≡ records_bytes rs ++ replicate (128 - 16 * length rs) 0 =
-    sym (take-append-drop (16 * o.count) o.records) ∙ ap₂ ◌++◌ f (zeros-are (behind o) z ∙ ap (λ (k : ℕ). replicate k 0) n) in
+    sym (take-append-drop (16 * o.count) o.records) ∙ ap₂ ◌++◌ f (zeros_are (behind o) z ∙ ap (λ (k : ℕ). replicate k 0) n) in
     let e : open_set_of rs ≡ o = λ i. record { count = sym c i; records = sym b i } in
     ap is_open_set (sym e) ∙ is_open rs h
 
@@ -119,91 +119,91 @@ pub parts : (o : OpenSet) → is_open_set o ≡ true → Parts o
 unfolding open_set_of
 parts o h =
     let w = open_is o h in
-    let s = (open-says (open_records o)).told w.1 in
+    let s = (open_says (open_records o)).told w.1 in
     let c : o.count ≡ length (open_records o) = ap (λ (p : OpenSet). p.count) w.0 in
     let b : o.records ≡ records_bytes (open_records o) ++ replicate (128 - 16 * length (open_records o)) 0 = ap (λ (p : OpenSet). p.records) w.0 in
-    let n : length (records_bytes (open_records o)) ≡ 16 * o.count = records-length (open_records o) ∙ ap (λ (k : ℕ). 16 * k) (sym c) in
+    let n : length (records_bytes (open_records o)) ≡ 16 * o.count = records_length (open_records o) ∙ ap (λ (k : ℕ). 16 * k) (sym c) in
     record {
       few = omega (arith, s.0, c);
       zeros =
           ap (λ (l : Bytes). all (λ x. eqb x 0) (drop (16 * o.count) l)) b
           ∙ ap (all (λ x. eqb x 0)) (drop_at (records_bytes (open_records o)) (replicate (128 - 16 * length (open_records o)) 0) (16 * o.count) n)
-          ∙ are-zeros (128 - 16 * length (open_records o));
+          ∙ are_zeros (128 - 16 * length (open_records o));
       bytes = ap (take (16 * o.count)) b ∙ take_at (records_bytes (open_records o)) (replicate (128 - 16 * length (open_records o)) 0) (16 * o.count) n;
     }
 
 -- a set's records are those of an open set that is not empty
-pub some-open : (rs : List Record) → sound_records rs ≡ leb 1 (length rs) and sound_open rs
+pub some_open : (rs : List Record) → sound_records rs ≡ leb 1 (length rs) and sound_open rs
 unfolding sound_records sound_open
-some-open rs = refl
+some_open rs = refl
 
 -- a struct of 128 bytes with no record is an open set where all are zero
-pub none-opened : (o : OpenSet) → length o.records ≡ 128 → o.count ≡ 0 → all (λ x. eqb x 0) (behind o) ≡ true → is_open_set o ≡ true
+pub none_opened : (o : OpenSet) → length o.records ≡ 128 → o.count ≡ 0 → all (λ x. eqb x 0) (behind o) ≡ true → is_open_set o ≡ true
 unfolding sound_open records_bytes flat ascend_from all ◌and◌
-none-opened o long c z = opened o [] long refl c (ap (λ (k : ℕ). take (16 * k) o.records) c) z
+none_opened o long c z = opened o [] long refl c (ap (λ (k : ℕ). take (16 * k) o.records) c) z
 
 -- and one with records where the front is an offered set's
-pub some-opened : (o : OpenSet) → length o.records ≡ 128 → o.count ≤ 8 → are_records (front o) ≡ true → all (λ x. eqb x 0) (behind o) ≡ true → is_open_set o ≡ true
-some-opened o long few h z =
-    let w = written-records (front o) (offered_records (front o)) (records-read (front o) h) in
+pub some_opened : (o : OpenSet) → length o.records ≡ 128 → o.count ≤ 8 → are_records (front o) ≡ true → all (λ x. eqb x 0) (behind o) ≡ true → is_open_set o ≡ true
+some_opened o long few h z =
+    let w = written_records (front o) (offered_records (front o)) (records_read (front o) h) in
     let n : length (front o) ≡ 16 * o.count = simp length-take (omega (arith, long, few)) in
-    let m = records-length (offered_records (front o)) in
+    let m = records_length (offered_records (front o)) in
     let c : o.count ≡ length (offered_records (front o)) = omega (arith, n, m, ap length w.0) in
-    opened o (offered_records (front o)) long (right _ _ (sym (some-open (offered_records (front o))) ∙ w.1)) c w.0 z
+    opened o (offered_records (front o)) long (right _ _ (sym (some_open (offered_records (front o))) ∙ w.1)) c w.0 z
 
 -- ---- what it offers
 
 -- it stands for as many records as it counts
-pub open-count : (o : OpenSet) → length (open_records o) ≡ o.count
+pub open_count : (o : OpenSet) → length (open_records o) ≡ o.count
 unfolding open_records
-open-count o = records-count o.count o.records 0
+open_count o = records_count o.count o.records 0
 
 -- the offered bytes of an open set are those in front, of another struct there are none
-pub offered-front : (o : OpenSet) → is_open_set o ≡ true → offered_bytes o ≡ front o
+pub offered_front : (o : OpenSet) → is_open_set o ≡ true → offered_bytes o ≡ front o
 unfolding offered_bytes
-offered-front o h = simp h (sym (parts o h).bytes)
+offered_front o h = simp h (sym (parts o h).bytes)
 
-pub offered-none : (o : OpenSet) → is_open_set o ≡ false → offered_bytes o ≡ []
+pub offered_none : (o : OpenSet) → is_open_set o ≡ false → offered_bytes o ≡ []
 unfolding offered_bytes
-offered-none o h = simp h
+offered_none o h = simp h
 
 -- the records that it offers are its own
-pub offered-records : (o : OpenSet) → is_open_set o ≡ true → offered_records (offered_bytes o) ≡ open_records o
+pub offered_records_lem : (o : OpenSet) → is_open_set o ≡ true → offered_records (offered_bytes o) ≡ open_records o
 unfolding offered_records offered_bytes
-offered-records o h =
-    let s = (open-says (open_records o)).told (open_is o h).1 in
-    let n : length (records_bytes (open_records o)) / 16 ≡ length (open_records o) = omega (arith, records-length (open_records o)) in
+offered_records_lem o h =
+    let s = (open_says (open_records o)).told (open_is o h).1 in
+    let n : length (records_bytes (open_records o)) / 16 ≡ length (open_records o) = omega (arith, records_length (open_records o)) in
     simp h
     (ap (λ (n : ℕ). records_in n (records_bytes (open_records o)) 0) n
-    ∙ records-at (open_records o) (records_bytes (open_records o)) 0 [] s.1.1 (sym (append-nil (records_bytes (open_records o)))))
+    ∙ records_at (open_records o) (records_bytes (open_records o)) 0 [] s.1.1 (sym (append-nil (records_bytes (open_records o)))))
 
 -- ITS BYTES ARE A SET'S JUST WHEN IT IS NOT EMPTY
-pub offers-records : (o : OpenSet) → are_records (offered_bytes o) ≡ is_open_set o and leb 1 o.count
+pub offers_records : (o : OpenSet) → are_records (offered_bytes o) ≡ is_open_set o and leb 1 o.count
 unfolding are_records well_formed ◌and◌
-offers-records o = go (is_open_set o) refl
+offers_records o = go (is_open_set o) refl
   where
     go : (t : Bool) → is_open_set o ≡ t → are_records (offered_bytes o) ≡ t and leb 1 o.count
     go true h =
         let w = open_is o h in
-        let e = offered-records o h in
+        let e = offered_records_lem o h in
         let b : offered_bytes o ≡ records_bytes (open_records o) = unfold offered_bytes in simp h in
-        rw (e, b, same_refl (records_bytes (open_records o)), some-open (open_records o), w.1, and-true, and-true) (ap (leb 1) (open-count o))
-    go false h = rw (offered-none o h) (unfold sound_records offered_records records_in ◌and◌ in refl)
+        rw (e, b, same_refl (records_bytes (open_records o)), some_open (open_records o), w.1, and_true, and_true) (ap (leb 1) (open_count o))
+    go false h = rw (offered_none o h) (unfold sound_records offered_records records_in ◌and◌ in refl)
 
 -- what it offers is the start of its bytes
-pub offered-part : (o : OpenSet) → offered_bytes o ≡ take (length (offered_bytes o)) o.records
-offered-part o = go (is_open_set o) refl
+pub offered_part : (o : OpenSet) → offered_bytes o ≡ take (length (offered_bytes o)) o.records
+offered_part o = go (is_open_set o) refl
   where
     go : (t : Bool) → is_open_set o ≡ t → offered_bytes o ≡ take (length (offered_bytes o)) o.records
     go true h =
-        let n : length (offered_bytes o) ≡ 16 * o.count = ap length (offered-front o h ∙ (parts o h).bytes) ∙ records-length (open_records o) ∙ ap (λ (k : ℕ). 16 * k) (open-count o) in
-        offered-front o h ∙ ap (λ (k : ℕ). take k o.records) (sym n)
-    go false h = rw (offered-none o h)
+        let n : length (offered_bytes o) ≡ 16 * o.count = ap length (offered_front o h ∙ (parts o h).bytes) ∙ records_length (open_records o) ∙ ap (λ (k : ℕ). 16 * k) (open_count o) in
+        offered_front o h ∙ ap (λ (k : ℕ). take k o.records) (sym n)
+    go false h = rw (offered_none o h)
 
 -- AN OPEN SET OFFERS ITS RECORDS
-pub offers-own : (o : OpenSet) (rs : List Record) → read_open o ≡ some rs → offered_bytes o ≡ records_bytes rs
+pub offers_own : (o : OpenSet) (rs : List Record) → read_open o ≡ some rs → offered_bytes o ≡ records_bytes rs
 unfolding read_open offered_bytes
-offers-own o rs e = go (is_open_set o) e
+offers_own o rs e = go (is_open_set o) e
   where
     go : (t : Bool) → (if t then some (open_records o) else none) ≡ some rs → (if t then records_bytes (open_records o) else []) ≡ records_bytes rs
     go true q = ap records_bytes (some-injective (open_records o) rs q)

@@ -57,26 +57,26 @@ module _ {A : Type 0} (f : A → ℕ) where
   no_loop : (x y : A) → f x < f y → f y < f x → ⊥
   no_loop x y h k = omega arith
 
-  not-below : {x y : A} → x ≡ y → f x < f y → ⊥
-  not-below e h = let c = ap f e in omega arith
+  not_below : {x y : A} → x ≡ y → f x < f y → ⊥
+  not_below e h = let c = ap f e in omega arith
 
   not_equal : (x y : A) → f x < f y → f x ≡ f y → ⊥
   not_equal x y h c = omega arith
 
   -- no two have one number
-  pub rising-one : {xs : List A} {x y : A} → Rising xs → Memᴰ x xs → Memᴰ y xs → f x ≡ f y → x ≡ y
-  rising-one nil m k c = absurd (Memᴰ.not-nil m)
-  rising-one {x} {y} (cons {x = z} g r) m k c =
+  pub rising_one : {xs : List A} {x y : A} → Rising xs → Memᴰ x xs → Memᴰ y xs → f x ≡ f y → x ≡ y
+  rising_one nil m k c = absurd (Memᴰ.not-nil m)
+  rising_one {x} {y} (cons {x = z} g r) m k c =
       ⊎_elim
       (λ p. ⊎_elim (λ q. p ∙ sym q) (λ b. absurd (not_equal z y (g y b) (ap f (sym p) ∙ c))) (Memᴰ.cases_cons k))
-      (λ a. ⊎_elim (λ q. absurd (not_equal z x (g x a) (ap f (sym q) ∙ sym c))) (λ b. rising-one r a b c) (Memᴰ.cases_cons k))
+      (λ a. ⊎_elim (λ q. absurd (not_equal z x (g x a) (ap f (sym q) ∙ sym c))) (λ b. rising_one r a b c) (Memᴰ.cases_cons k))
       (Memᴰ.cases_cons m)
 
   -- the first that passes has the smallest number of those that pass
-  pub rising-first : (p : A → Bool) {xs : List A} {x y : A} → Rising xs → first p xs ≡ some x → Memᴰ y xs → p y ≡ true → f x ≤ f y
+  pub rising_first : (p : A → Bool) {xs : List A} {x y : A} → Rising xs → first p xs ≡ some x → Memᴰ y xs → p y ≡ true → f x ≤ f y
   unfolding first
-  rising-first p nil e m t = absurd (Memᴰ.not-nil m)
-  rising-first p {x} {y} (cons {x = z} {xs = zs} g r) e m t = go (p z) refl e (λ d k. rising-first p r d k t)
+  rising_first p nil e m t = absurd (Memᴰ.not-nil m)
+  rising_first p {x} {y} (cons {x = z} {xs = zs} g r) e m t = go (p z) refl e (λ d k. rising_first p r d k t)
     where
       at_head : z ≡ x → (y ≡ z) ⊎ Memᴰ y zs → f x ≤ f y
       at_head c d = let a = ap f c in ⊎_elim (λ i. let b = ap f i in omega arith) (λ i. let b = g y i in omega arith) d
@@ -87,19 +87,19 @@ module _ {A : Type 0} (f : A → ℕ) where
 
   -- what is above the head of one list, and in the other, is in the other's tail
   tails : {x y : A} {xs ys : List A} → x ≡ y → Above (f x) xs → Sub (x ∷ xs) (y ∷ ys) → Sub xs ys
-  tails e g s z m = ⊎_elim (λ q. absurd (not-below (e ∙ sym q) (g z m))) (λ k. k) (Memᴰ.cases_cons (s z (Memᴰ.tail m)))
+  tails e g s z m = ⊎_elim (λ q. absurd (not_below (e ∙ sym q) (g z m))) (λ k. k) (Memᴰ.cases_cons (s z (Memᴰ.tail m)))
 
   -- RISING LISTS OF THE SAME ELEMENTS ARE EQUAL
-  pub rising-unique : {xs ys : List A} → Rising xs → Rising ys → Sub xs ys → Sub ys xs → xs ≡ ys
-  rising-unique nil nil s t = refl
-  rising-unique nil (cons {x = y} g q) s t = absurd (Memᴰ.not-nil (t y (Memᴰ.head refl)))
-  rising-unique (cons {x} g p) nil s t = absurd (Memᴰ.not-nil (s x (Memᴰ.head refl)))
-  rising-unique (cons {x} g p) (cons {x = y} h q) s t =
+  pub rising_unique : {xs ys : List A} → Rising xs → Rising ys → Sub xs ys → Sub ys xs → xs ≡ ys
+  rising_unique nil nil s t = refl
+  rising_unique nil (cons {x = y} g q) s t = absurd (Memᴰ.not-nil (t y (Memᴰ.head refl)))
+  rising_unique (cons {x} g p) nil s t = absurd (Memᴰ.not-nil (s x (Memᴰ.head refl)))
+  rising_unique (cons {x} g p) (cons {x = y} h q) s t =
       let e : x ≡ y =
       ⊎_elim (λ e. e)
       (λ k. ⊎_elim (λ e. sym e) (λ l. absurd (no_loop x y (g y l) (h x k))) (Memᴰ.cases_cons (t y (Memᴰ.head refl))))
       (Memᴰ.cases_cons (s x (Memᴰ.head refl))) in
-      ap₂ ◌∷◌ e (rising-unique p q (tails e g s) (tails (sym e) h t))
+      ap₂ ◌∷◌ e (rising_unique p q (tails e g s) (tails (sym e) h t))
 
   -- AND FEWER ELEMENTS MAKE NO LONGER LIST
   pub rising_le : {xs ys : List A} → Rising xs → Rising ys → Sub xs ys → length xs ≤ length ys
@@ -111,22 +111,22 @@ module _ {A : Type 0} (f : A → ℕ) where
       (λ k.
       let t : Sub (x ∷ xs) ys =
       λ z m. ⊎_elim (λ e. Memᴰ.cast e k)
-      (λ l. ⊎_elim (λ e. absurd (not-below (sym e) (lower (f y) x z (h x k) (g z l)))) (λ o. o) (Memᴰ.cases_cons (s z m)))
+      (λ l. ⊎_elim (λ e. absurd (not_below (sym e) (lower (f y) x z (h x k) (g z l)))) (λ o. o) (Memᴰ.cases_cons (s z m)))
       (Memᴰ.cases_cons m) in
       let r = rising_le (cons g p) q t in omega arith)
       (Memᴰ.cases_cons (s x (Memᴰ.head refl)))
 
-  pub rising-keep : (p : A → Bool) {xs : List A} → Rising xs → Rising (keep p xs)
+  pub rising_keep : (p : A → Bool) {xs : List A} → Rising xs → Rising (keep p xs)
   unfolding keep
-  rising-keep p nil = nil
-  rising-keep p (cons {x} {xs} g r) = go (p x) (rising-keep p r)
+  rising_keep p nil = nil
+  rising_keep p (cons {x} {xs} g r) = go (p x) (rising_keep p r)
     where
       go : (t : Bool) → Rising (keep p xs) → Rising (if t then x ∷ keep p xs else keep p xs)
       go true k = cons (λ y m. g y (keep→ p xs m).0) k
       go false k = k
 
-  pub rising-append : {xs ys : List A} → Rising xs → Rising ys → ((x y : A) → Memᴰ x xs → Memᴰ y ys → f x < f y) → Rising (xs ++ ys)
-  rising-append nil q h = q
-  rising-append (cons {x} {xs} g r) q h =
+  pub rising_append : {xs ys : List A} → Rising xs → Rising ys → ((x y : A) → Memᴰ x xs → Memᴰ y ys → f x < f y) → Rising (xs ++ ys)
+  rising_append nil q h = q
+  rising_append (cons {x} {xs} g r) q h =
       cons (λ y m. ⊎_elim (λ k. g y k) (λ k. h x y (Memᴰ.head refl) k) (Memᴰ.append_cases xs m))
-      (rising-append r q (λ a b m k. h a b (Memᴰ.tail m) k))
+      (rising_append r q (λ a b m k. h a b (Memᴰ.tail m) k))

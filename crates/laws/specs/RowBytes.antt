@@ -7,7 +7,7 @@ use Rattle.words.specs.Words.{Bytes, part}
 use Rattle.rules.specs.declared.row.Row.{Row}
 use Rattle.rules.specs.Lists.{flat}
 use Rattle.rules.specs.Register.{Register, row_bytes, register_bytes}
-use Rattle.laws.specs.RegisterLaws.{row-length, head_tail}
+use Rattle.laws.specs.RegisterLaws.{row_length, head_tail}
 
 -- the bytes have the row, at a place behind the head of 8 bytes and some rows of 28
 pub record HasRow (b : Bytes) (row : Row) : Type 0 where
@@ -16,23 +16,23 @@ pub record HasRow (b : Bytes) (row : Row) : Type 0 where
 
 -- the bytes of a row, and those behind it
 row_first : (x : Row) (rest : Bytes) → take 28 (row_bytes x ++ rest) ≡ row_bytes x
-row_first x rest = ap (λ (n : ℕ). take n (row_bytes x ++ rest)) (sym (row-length x)) ∙ take-append_seam (row_bytes x) rest
+row_first x rest = ap (λ (n : ℕ). take n (row_bytes x ++ rest)) (sym (row_length x)) ∙ take-append_seam (row_bytes x) rest
 
-row-passed : (x : Row) (rest : Bytes) (i : ℕ) → drop (28 * suc i) (row_bytes x ++ rest) ≡ drop (28 * i) rest
-row-passed x rest i =
-    let n : 28 * suc i ≡ length (row_bytes x) + 28 * i = omega (arith, row-length x) in
+row_passed : (x : Row) (rest : Bytes) (i : ℕ) → drop (28 * suc i) (row_bytes x ++ rest) ≡ drop (28 * i) rest
+row_passed x rest i =
+    let n : 28 * suc i ≡ length (row_bytes x) + 28 * i = omega (arith, row_length x) in
     ap (λ (n : ℕ). drop n (row_bytes x ++ rest)) n ∙ drop-append-add (row_bytes x) rest (28 * i)
 
-rows-have : {row : Row} {rs : List Row} → Memᴰ row rs → (i : ℕ) × (part (flat row_bytes rs) (28 * i) 28 ≡ row_bytes row)
+rows_have : {row : Row} {rs : List Row} → Memᴰ row rs → (i : ℕ) × (part (flat row_bytes rs) (28 * i) 28 ≡ row_bytes row)
 unfolding flat part
-rows-have (Memᴰ.head {x} {xs} e) = (0, row_first x (flat row_bytes xs) ∙ ap row_bytes (sym e))
-rows-have (Memᴰ.tail {x} {xs} m) = let r = rows-have m in (suc r.0, ap (take 28) (row-passed x (flat row_bytes xs) r.0) ∙ r.1)
+rows_have (Memᴰ.head {x} {xs} e) = (0, row_first x (flat row_bytes xs) ∙ ap row_bytes (sym e))
+rows_have (Memᴰ.tail {x} {xs} m) = let r = rows_have m in (suc r.0, ap (take 28) (row_passed x (flat row_bytes xs) r.0) ∙ r.1)
 
 -- A REGISTER'S BYTES HAVE EACH OF ITS ROWS
-pub has-row : (g : Register) {row : Row} → Memᴰ row g.rows → HasRow (register_bytes g) row
+pub has_row : (g : Register) {row : Row} → Memᴰ row g.rows → HasRow (register_bytes g) row
 unfolding register_bytes part
-has-row g m =
-    let r = rows-have m in
+has_row g m =
+    let r = rows_have m in
     record {
       number = r.0;
       bytes = ap (take 28)

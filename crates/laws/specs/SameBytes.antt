@@ -7,35 +7,35 @@ use Rattle.rules.specs.Sheet.{sheet_bytes}
 use Rattle.rules.specs.Refused.{done}
 use Rattle.laws.specs.ListLaws.{Sub}
 use Rattle.laws.specs.GatherSound.{Head}
-use Rattle.laws.specs.GatheredFrom.{gathered_from, from-same}
+use Rattle.laws.specs.GatheredFrom.{gathered_from, from_same}
 use Rattle.laws.specs.Trees.{Tree, paper, ends, offers_in, epoch_of, roster_of, spoiled_in, gathered_in}
-use Rattle.laws.specs.Demand3.{demand-3}
-use Rattle.laws.specs.FairTrees.{FairTree, fair-head}
+use Rattle.laws.specs.Demand3.{demand_3}
+use Rattle.laws.specs.FairTrees.{FairTree, fair_head}
 use Rattle.laws.specs.NeverStuck.{never_stuck}
 
 -- the same distinct offers: each of either tree is in the other, and both began at a spoiled sheet or neither did
 pub record SameOffers (t u : Tree) : Type 0 where
   pub there : Sub (offers_in t) (offers_in u)
   pub back : Sub (offers_in u) (offers_in t)
-  pub spoiled-alike : spoiled_in t ≡ spoiled_in u
+  pub spoiled_alike : spoiled_in t ≡ spoiled_in u
 
 -- the same sheet is gathered
-same-gathered : (t u : Tree) → epoch_of t ≡ epoch_of u → roster_of t ≡ roster_of u → SameOffers t u → gathered_in t ≡ gathered_in u
+same_gathered : (t u : Tree) → epoch_of t ≡ epoch_of u → roster_of t ≡ roster_of u → SameOffers t u → gathered_in t ≡ gathered_in u
 unfolding gathered_in
-same-gathered t u c d h =
-    from-same (spoiled_in t) (epoch_of t) (roster_of t) (offers_in t) (offers_in u) h.there h.back
-    ∙ λ i. gathered_from (h.spoiled-alike i) (c i) (d i) (offers_in u)
+same_gathered t u c d h =
+    from_same (spoiled_in t) (epoch_of t) (roster_of t) (offers_in t) (offers_in u) h.there h.back
+    ∙ λ i. gathered_from (h.spoiled_alike i) (c i) (d i) (offers_in u)
 
 -- TREES OF ONE EPOCH, ONE ROSTER AND THE SAME DISTINCT OFFERS END IN THE SAME BYTES
 pub same_bytes : (e r : ℕ) → Head e r → (t u : Tree) → FairTree e r t → FairTree e r u → SameOffers t u
     → (b : Bytes) × (ends paper t ≡ done b) × (ends paper u ≡ done b)
 same_bytes e r k t u f g h =
-    let a = fair-head e r t f in
-    let b = fair-head e r u g in
-    let w = same-gathered t u (a.0 ∙ sym b.0) (a.1 ∙ sym b.1) h in
+    let a = fair_head e r t f in
+    let b = fair_head e r u g in
+    let w = same_gathered t u (a.0 ∙ sym b.0) (a.1 ∙ sym b.1) h in
     (sheet_bytes (gathered_in t), never_stuck e r k t f, never_stuck e r k u g ∙ ap (λ x. done (sheet_bytes x)) (sym w))
 
 -- the same of trees that are not refused
 pub same_ended : (t u : Tree) (a b : Bytes) → ends paper t ≡ done a → ends paper u ≡ done b
     → epoch_of t ≡ epoch_of u → roster_of t ≡ roster_of u → SameOffers t u → a ≡ b
-same_ended t u a b p q c d h = demand-3 t a p ∙ ap sheet_bytes (same-gathered t u c d h) ∙ sym (demand-3 u b q)
+same_ended t u a b p q c d h = demand_3 t a p ∙ ap sheet_bytes (same_gathered t u c d h) ∙ sym (demand_3 u b q)

@@ -15,32 +15,32 @@ use Rattle.laws.specs.SameBytes.{SameOffers, same_bytes, same_ended}
 
 -- buffers that are long enough for closing: 28,680 for the next register, 320 for the verdicts
 pub record LongEnough (next_room room : ℕ) : Type 0 where
-  pub for-register : register_room ≤ next_room
-  pub for-verdicts : verdict_room ≤ room
+  pub for_register : register_room ≤ next_room
+  pub for_verdicts : verdict_room ≤ room
 
 -- such buffers do what the shortest such ones do
 shortest : (g : Option Register) (s : Option Sheet) (n m : ℕ) → LongEnough n m → close_sheet g s n m ≡ close_sheet g s register_room verdict_room
 unfolding close_sheet ◌or◌
 shortest none s n m l = refl
 shortest (some g) none n m l = refl
-shortest (some g) (some s) n m l = simp (le-ltb n register_room l.for-register, le-ltb m verdict_room l.for-verdicts)
+shortest (some g) (some s) n m l = simp (le-ltb n register_room l.for_register, le-ltb m verdict_room l.for_verdicts)
 
 -- CLOSING DOES NOT DEPEND ON HOW LONG THE BUFFERS ARE, IF THEY ARE LONG ENOUGH
-pub rooms-alike : (g a : Bytes) (n m n' m' : ℕ) → LongEnough n m → LongEnough n' m' → close_outcome g a n m ≡ close_outcome g a n' m'
+pub rooms_alike : (g a : Bytes) (n m n' m' : ℕ) → LongEnough n m → LongEnough n' m' → close_outcome g a n m ≡ close_outcome g a n' m'
 unfolding close_outcome
-rooms-alike g a n m n' m' l k = shortest (read_register g) (read_sheet a) n m l ∙ sym (shortest (read_register g) (read_sheet a) n' m' k)
+rooms_alike g a n m n' m' l k = shortest (read_register g) (read_sheet a) n m l ∙ sym (shortest (read_register g) (read_sheet a) n' m' k)
 
 -- SO TREES OF THE SAME DISTINCT OFFERS CLOSE ALIKE FROM ONE REGISTER, TO THE SAME VERDICTS AND REGISTER OR THE SAME REFUSAL
-pub same-closing : (e r : ℕ) → Head e r → (t u : Tree) → FairTree e r t → FairTree e r u → SameOffers t u
+pub same_closing : (e r : ℕ) → Head e r → (t u : Tree) → FairTree e r t → FairTree e r u → SameOffers t u
     → (g : Bytes) (n m n' m' : ℕ) → LongEnough n m → LongEnough n' m'
     → (a : Bytes) × (b : Bytes) × (ends paper t ≡ done a) × (ends paper u ≡ done b) × (close_outcome g a n m ≡ close_outcome g b n' m')
-same-closing e r h t u f k s g n m n' m' l o =
+same_closing e r h t u f k s g n m n' m' l o =
     let w = same_bytes e r h t u f k s in
-    (w.0, w.0, w.1, w.2, rooms-alike g w.0 n m n' m' l o)
+    (w.0, w.0, w.1, w.2, rooms_alike g w.0 n m n' m' l o)
 
 -- the same of trees that are not refused
-pub same-ended-closing : (t u : Tree) (a b : Bytes) → ends paper t ≡ done a → ends paper u ≡ done b
+pub same_ended_closing : (t u : Tree) (a b : Bytes) → ends paper t ≡ done a → ends paper u ≡ done b
     → epoch_of t ≡ epoch_of u → roster_of t ≡ roster_of u → SameOffers t u
     → (g : Bytes) (n m n' m' : ℕ) → LongEnough n m → LongEnough n' m' → close_outcome g a n m ≡ close_outcome g b n' m'
-same-ended-closing t u a b p q c d h g n m n' m' l o =
-    ap (λ (x : Bytes). close_outcome g x n m) (same_ended t u a b p q c d h) ∙ rooms-alike g b n m n' m' l o
+same_ended_closing t u a b p q c d h g n m n' m' l o =
+    ap (λ (x : Bytes). close_outcome g x n m) (same_ended t u a b p q c d h) ∙ rooms_alike g b n m n' m' l o

@@ -72,19 +72,19 @@ pub ◌so◌ : {a b : Bool} {P Q : Type 0} → Says a P → Says b Q → Says (n
 
 -- each of a list, by its places
 module _ {A : Type 0} (p : A → Bool) (d : A) where
-  each-told : (xs : List A) → all p xs ≡ true → (k : ℕ) → k < length xs → p (get_or xs k d) ≡ true
+  each_told : (xs : List A) → all p xs ≡ true → (k : ℕ) → k < length xs → p (get_or xs k d) ≡ true
   unfolding all
-  each-told [] e k l = absurd (omega arith)
-  each-told (x ∷ xs) e zero l = left _ _ e
-  each-told (x ∷ xs) e (suc k) l = each-told xs (right _ _ e) k (omega arith)
+  each_told [] e k l = absurd (omega arith)
+  each_told (x ∷ xs) e zero l = left _ _ e
+  each_told (x ∷ xs) e (suc k) l = each_told xs (right _ _ e) k (omega arith)
 
-  each-test : (xs : List A) → ((k : ℕ) → k < length xs → p (get_or xs k d) ≡ true) → all p xs ≡ true
+  each_test : (xs : List A) → ((k : ℕ) → k < length xs → p (get_or xs k d) ≡ true) → all p xs ≡ true
   unfolding all
-  each-test [] h = refl
-  each-test (x ∷ xs) h = both (h 0 (omega arith)) (each-test xs (λ k l. h (suc k) (omega arith)))
+  each_test [] h = refl
+  each_test (x ∷ xs) h = both (h 0 (omega arith)) (each_test xs (λ k l. h (suc k) (omega arith)))
 
   pub each : (xs : List A) → Says (all p xs) ((k : ℕ) → k < length xs → p (get_or xs k d) ≡ true)
-  each xs = record { told = each-told xs; test = each-test xs }
+  each xs = record { told = each_told xs; test = each_test xs }
 
 -- each of the n numbers from j on
 module _ (f : ℕ → Bool) where
@@ -94,15 +94,15 @@ module _ (f : ℕ → Bool) where
   from_told (suc n) j e k a b =
       ⊎_elim (λ q. ap f (sym q) ∙ left _ _ e) (λ (h : j < k). from_told n (suc j) (right _ _ e) k (omega arith) (omega arith)) (eq-or-lt_of_le a)
 
-  from-test : (n j : ℕ) → ((k : ℕ) → j ≤ k → k < j + n → f k ≡ true) → all f (up_from j n) ≡ true
+  from_test : (n j : ℕ) → ((k : ℕ) → j ≤ k → k < j + n → f k ≡ true) → all f (up_from j n) ≡ true
   unfolding all up_from
-  from-test zero j h = refl
-  from-test (suc n) j h = both (h j (omega arith) (omega arith)) (from-test n (suc j) (λ k a b. h k (omega arith) (omega arith)))
+  from_test zero j h = refl
+  from_test (suc n) j h = both (h j (omega arith) (omega arith)) (from_test n (suc j) (λ k a b. h k (omega arith) (omega arith)))
 
   pub each_below : (n : ℕ) → Says (all f (up_from 0 n)) ((k : ℕ) → k < n → f k ≡ true)
   each_below n = record {
     told = λ e k l. from_told n 0 e k (omega arith) (omega arith);
-    test = λ h. from-test n 0 (λ k a b. h k (omega arith));
+    test = λ h. from_test n 0 (λ k a b. h k (omega arith));
   }
 
   -- a loop over a test: it stopped at a number that fails, or passed them all
@@ -113,26 +113,26 @@ module _ (f : ℕ → Bool) where
   passes n i l h = yes_of (each_below n) (λ k m. h k (omega arith))
 
 -- numbers ascend: each is above the one before it, the first above p
-ascend-told : (p : ℕ) (xs : List ℕ) → ascend_from p xs ≡ true → (k : ℕ) → k < length xs → get_or (p ∷ xs) k 0 < get_or xs k 0
+ascend_told : (p : ℕ) (xs : List ℕ) → ascend_from p xs ≡ true → (k : ℕ) → k < length xs → get_or (p ∷ xs) k 0 < get_or xs k 0
 unfolding ascend_from
-ascend-told p [] e k l = absurd (omega arith)
-ascend-told p (x ∷ xs) e zero l = ltb-true p x (left _ _ e)
-ascend-told p (x ∷ xs) e (suc k) l = ascend-told x xs (right _ _ e) k (omega arith)
+ascend_told p [] e k l = absurd (omega arith)
+ascend_told p (x ∷ xs) e zero l = ltb-true p x (left _ _ e)
+ascend_told p (x ∷ xs) e (suc k) l = ascend_told x xs (right _ _ e) k (omega arith)
 
-ascend-test : (p : ℕ) (xs : List ℕ) → ((k : ℕ) → k < length xs → get_or (p ∷ xs) k 0 < get_or xs k 0) → ascend_from p xs ≡ true
+ascend_test : (p : ℕ) (xs : List ℕ) → ((k : ℕ) → k < length xs → get_or (p ∷ xs) k 0 < get_or xs k 0) → ascend_from p xs ≡ true
 unfolding ascend_from
-ascend-test p [] h = refl
-ascend-test p (x ∷ xs) h = both (lt-ltb p x (h 0 (omega arith))) (ascend-test x xs (λ k l. h (suc k) (omega arith)))
+ascend_test p [] h = refl
+ascend_test p (x ∷ xs) h = both (lt-ltb p x (h 0 (omega arith))) (ascend_test x xs (λ k l. h (suc k) (omega arith)))
 
 pub ascends : (p : ℕ) (xs : List ℕ) → Says (ascend_from p xs) ((k : ℕ) → k < length xs → get_or (p ∷ xs) k 0 < get_or xs k 0)
-ascends p xs = record { told = ascend-told p xs; test = ascend-test p xs }
+ascends p xs = record { told = ascend_told p xs; test = ascend_test p xs }
 
 -- `if !f(..)`: what f's answer r, which its contract gives as the test b, said there
-pub said-no : {r b : Bool} → r ≡ b → not r ≡ true → b ≡ false
-said-no {r} e n = sym e ∙ not-true r n
+pub said_no : {r b : Bool} → r ≡ b → not r ≡ true → b ≡ false
+said_no {r} e n = sym e ∙ not-true r n
 
-pub said-yes : {r b : Bool} → r ≡ b → not r ≡ false → b ≡ true
-said-yes {r} e n = sym e ∙ not-false r n
+pub said_yes : {r b : Bool} → r ≡ b → not r ≡ false → b ≡ true
+said_yes {r} e n = sym e ∙ not-false r n
 
 pub clash : {b : Bool} → b ≡ true → b ≡ false → ⊥
 clash p q = true≢false (sym p ∙ q)

@@ -32,5 +32,5 @@ rule c x y hc hx hy =
     record { entry = r.0; diagonal = r.1.0; row = r.1.1.0; column = r.1.1.1.0; exchange = r.1.1.1.1 }
 
 -- a step from a digit by a digit leads to a digit
-pub step-below : (c x : ℕ) → c < 10 → x < 10 → step c x < 10
-step-below c x hc hx = (rule c x x hc hx hx).entry
+pub step_below : (c x : ℕ) → c < 10 → x < 10 → step c x < 10
+step_below c x hc hx = (rule c x x hc hx hx).entry

@@ -13,29 +13,29 @@ use Rattle.rules.specs.Tag.{step, is_digit, digit_of, steps, right_tag, number, 
 use Rattle.laws.specs.Tests.{left, right, both}
 use Rattle.laws.specs.Says.{Says, is_le, is_lt, ◌also◌, each}
 use Rattle.laws.specs.TagRule.{rule}
-use Rattle.laws.specs.TagDetects.{digit-is, digit-below, right_is, steps-below}
+use Rattle.laws.specs.TagDetects.{digit_is, digit_below, right_is, steps_below}
 
 -- a station's key
-pub key-is : (k : ℕ) → Says (is_key k) ((1 ≤ k) × (k < 4294967296))
+pub key_is : (k : ℕ) → Says (is_key k) ((1 ≤ k) × (k < 4294967296))
 unfolding is_key fits
-key-is k = is_le 1 k also is_lt k (256 ^ 4)
+key_is k = is_le 1 k also is_lt k (256 ^ 4)
 
-pub steps-append : (i : ℕ) (xs ys : Bytes) → steps i (xs ++ ys) ≡ steps (steps i xs) ys
+pub steps_append : (i : ℕ) (xs ys : Bytes) → steps i (xs ++ ys) ≡ steps (steps i xs) ys
 unfolding steps
-steps-append i [] ys = refl
-steps-append i (x ∷ xs) ys = steps-append (step i (digit_of x)) xs ys
+steps_append i [] ys = refl
+steps_append i (x ∷ xs) ys = steps_append (step i (digit_of x)) xs ys
 
 -- ---- the tag of a key
 
-pub digits-length : (n k : ℕ) → length (digits n k) ≡ n
+pub digits_length : (n k : ℕ) → length (digits n k) ≡ n
 unfolding digits
-digits-length zero k = refl
-digits-length (suc n) k = ap suc (digits-length n k)
+digits_length zero k = refl
+digits_length (suc n) k = ap suc (digits_length n k)
 
-pub digits-all : (n k : ℕ) → all is_digit (digits n k) ≡ true
+pub digits_all : (n k : ℕ) → all is_digit (digits n k) ≡ true
 unfolding digits all
-digits-all zero k = refl
-digits-all (suc n) k = both ((digit-is (48 + k / 10 ^ n % 10)).test (omega arith, omega arith)) (digits-all n k)
+digits_all zero k = refl
+digits_all (suc n) k = both ((digit_is (48 + k / 10 ^ n % 10)).test (omega arith, omega arith)) (digits_all n k)
 
 all_append : (xs ys : Bytes) → all is_digit xs ≡ true → all is_digit ys ≡ true → all is_digit (xs ++ ys) ≡ true
 unfolding all
@@ -53,42 +53,42 @@ digits_number (suc n) a k =
     ap (λ (d : ℕ). number (a * 10 + d) (digits n k)) q ∙ digits_number n (a * 10 + k / 10 ^ n % 10) k ∙ last
 
 -- a check digit is a digit
-pub check-below : (n k : ℕ) → check_digit (digits n k) < 10
+pub check_below : (n k : ℕ) → check_digit (digits n k) < 10
 unfolding check_digit
-check-below n k = steps-below 0 (digits n k) (omega arith) (digits-all n k)
+check_below n k = steps_below 0 (digits n k) (omega arith) (digits_all n k)
 
-pub tag-length : (k : ℕ) → length (tag_of k) ≡ 11
+pub tag_length : (k : ℕ) → length (tag_of k) ≡ 11
 unfolding tag_of
-tag-length k = length-append (digits 10 k) ((48 + check_digit (digits 10 k)) ∷ []) ∙ ap (λ (n : ℕ). n + 1) (digits-length 10 k)
+tag_length k = length-append (digits 10 k) ((48 + check_digit (digits 10 k)) ∷ []) ∙ ap (λ (n : ℕ). n + 1) (digits_length 10 k)
 
-tag-digits : (k : ℕ) → all is_digit (tag_of k) ≡ true
+tag_digits : (k : ℕ) → all is_digit (tag_of k) ≡ true
 unfolding tag_of all
-tag-digits k =
-    let b = check-below 10 k in
-    all_append (digits 10 k) ((48 + check_digit (digits 10 k)) ∷ []) (digits-all 10 k)
-    (both ((digit-is (48 + check_digit (digits 10 k))).test (omega arith, omega arith)) refl)
+tag_digits k =
+    let b = check_below 10 k in
+    all_append (digits 10 k) ((48 + check_digit (digits 10 k)) ∷ []) (digits_all 10 k)
+    (both ((digit_is (48 + check_digit (digits 10 k))).test (omega arith, omega arith)) refl)
 
 -- the check digit leads to 0
-tag-ends : (k : ℕ) → steps 0 (tag_of k) ≡ 0
+tag_ends : (k : ℕ) → steps 0 (tag_of k) ≡ 0
 unfolding tag_of check_digit steps
-tag-ends k =
+tag_ends k =
     let c = steps 0 (digits 10 k) in
-    let b = steps-below 0 (digits 10 k) (omega arith) (digits-all 10 k) in
+    let b = steps_below 0 (digits 10 k) (omega arith) (digits_all 10 k) in
     let d : digit_of (48 + steps 0 (digits 10 k)) ≡ steps 0 (digits 10 k) = omega arith in
-    steps-append 0 (digits 10 k) ((48 + steps 0 (digits 10 k)) ∷ [])
+    steps_append 0 (digits 10 k) ((48 + steps 0 (digits 10 k)) ∷ [])
     ∙ ap (step (steps 0 (digits 10 k))) d
     ∙ (rule (steps 0 (digits 10 k)) 0 0 b (omega arith) (omega arith)).diagonal
 
-tag-key : (k : ℕ) → k < 4294967296 → key_in (tag_of k) ≡ k
+tag_key : (k : ℕ) → k < 4294967296 → key_in (tag_of k) ≡ k
 unfolding tag_of key_in
-tag-key k h =
-    ap (number 0) (take_at (digits 10 k) ((48 + check_digit (digits 10 k)) ∷ []) 10 (digits-length 10 k))
+tag_key k h =
+    ap (number 0) (take_at (digits 10 k) ((48 + check_digit (digits 10 k)) ∷ []) 10 (digits_length 10 k))
     ∙ digits_number 10 0 k
     ∙ omega arith
 
 -- THE TAG OF A KEY IS RIGHT
-pub tag-right : (k : ℕ) → right_tag (tag_of k) ≡ true
-tag-right k = (right_is (tag_of k)).test (tag-length k, (tag-digits k, tag-ends k))
+pub tag_right : (k : ℕ) → right_tag (tag_of k) ≡ true
+tag_right k = (right_is (tag_of k)).test (tag_length k, (tag_digits k, tag_ends k))
 
 -- a station's tag has its key, which is in range
 pub tag_is : (t : Bytes) → is_tag t ≡ true → (key_of_tag t ≡ some (key_in t)) × (is_key (key_in t) ≡ true)
@@ -96,51 +96,51 @@ unfolding key_of_tag is_tag
 tag_is t h = (simp h, right _ _ h)
 
 -- the tag of a station's key is a station's tag, with that key
-pub tag-of-is : (k : ℕ) → is_key k ≡ true → (is_tag (tag_of k) ≡ true) × (key_in (tag_of k) ≡ k)
+pub tag_of_is : (k : ℕ) → is_key k ≡ true → (is_tag (tag_of k) ≡ true) × (key_in (tag_of k) ≡ k)
 unfolding is_tag
-tag-of-is k h = let e = tag-key k ((key-is k).told h).1 in (both (tag-right k) (ap is_key e ∙ h), e)
+tag_of_is k h = let e = tag_key k ((key_is k).told h).1 in (both (tag_right k) (ap is_key e ∙ h), e)
 
 -- AND HAS THAT KEY
-pub key-of-tag : (k : ℕ) → is_key k ≡ true → key_of_tag (tag_of k) ≡ some k
-key-of-tag k h = let w = tag-of-is k h in (tag_is (tag_of k) w.0).0 ∙ ap some w.1
+pub key_of_tag_lem : (k : ℕ) → is_key k ≡ true → key_of_tag (tag_of k) ≡ some k
+key_of_tag_lem k h = let w = tag_of_is k h in (tag_is (tag_of k) w.0).0 ∙ ap some w.1
 
 -- ---- the key of a tag
 
-number-split : (a : ℕ) (t : Bytes) → number a t ≡ a * 10 ^ length t + number 0 t
+number_split : (a : ℕ) (t : Bytes) → number a t ≡ a * 10 ^ length t + number 0 t
 unfolding number
-number-split a [] = omega arith
-number-split a (b ∷ bs) =
-    let p = number-split (a * 10 + digit_of b) bs in
-    let q = number-split (0 * 10 + digit_of b) bs in
+number_split a [] = omega arith
+number_split a (b ∷ bs) =
+    let p = number_split (a * 10 + digit_of b) bs in
+    let q = number_split (0 * 10 + digit_of b) bs in
     let e = add-mul (a * 10) (digit_of b) (10 ^ length bs) in
     let f = add-mul (0 * 10) (digit_of b) (10 ^ length bs) in
     let g = mul_assoc a 10 (10 ^ length bs) in
     let z : 0 * 10 * 10 ^ length bs ≡ 0 = omega arith in
     rw (p, q, pow-succ' 10 (length bs), e, f, g, z) (omega arith)
 
-number-below : (t : Bytes) → all is_digit t ≡ true → number 0 t < 10 ^ length t
+number_below : (t : Bytes) → all is_digit t ≡ true → number 0 t < 10 ^ length t
 unfolding number all
-number-below [] h = omega arith
-number-below (b ∷ bs) h =
-    let d = digit-below b (left _ _ h) in
-    let q = number-split (0 * 10 + digit_of b) bs in
+number_below [] h = omega arith
+number_below (b ∷ bs) h =
+    let d = digit_below b (left _ _ h) in
+    let q = number_split (0 * 10 + digit_of b) bs in
     let l : 0 * 10 + digit_of b ≤ 9 = omega arith in
     let m = mul-le-mul_right (10 ^ length bs) l in
-    let v = number-below bs (right _ _ h) in
+    let v = number_below bs (right _ _ h) in
     rw (q, pow-succ' 10 (length bs)) (omega arith)
 
 -- the digits of a number are those that it was read from
-digits-only : (a : ℕ) (t : Bytes) → all is_digit t ≡ true → digits (length t) (number a t) ≡ t
+digits_only : (a : ℕ) (t : Bytes) → all is_digit t ≡ true → digits (length t) (number a t) ≡ t
 unfolding number all digits
-digits-only a [] h = refl
-digits-only a (b ∷ bs) h =
-    let d = (digit-is b).told (left _ _ h) in
+digits_only a [] h = refl
+digits_only a (b ∷ bs) h =
+    let d = (digit_is b).told (left _ _ h) in
     let n = number (a * 10 + digit_of b) bs in
     let s : number (a * 10 + digit_of b) bs / 10 ^ length bs ≡ a * 10 + digit_of b + number 0 bs / 10 ^ length bs =
-    rw (number-split (a * 10 + digit_of b) bs) (mul-add-div_right (one-le-pow (length bs) 10 (lit< tt)) (a * 10 + digit_of b) (number 0 bs)) in
-    let z : number 0 bs / 10 ^ length bs ≡ 0 = div-eq_of_lt (number-below bs (right _ _ h)) in
+    rw (number_split (a * 10 + digit_of b) bs) (mul-add-div_right (one-le-pow (length bs) 10 (lit< tt)) (a * 10 + digit_of b) (number 0 bs)) in
+    let z : number 0 bs / 10 ^ length bs ≡ 0 = div-eq_of_lt (number_below bs (right _ _ h)) in
     let e : 48 + number (a * 10 + digit_of b) bs / 10 ^ length bs % 10 ≡ b = rw (s, z) (omega arith) in
-    rw (e, digits-only (a * 10 + digit_of b) bs (right _ _ h))
+    rw (e, digits_only (a * 10 + digit_of b) bs (right _ _ h))
 
 all_take : (n : ℕ) (t : Bytes) → all is_digit t ≡ true → all is_digit (take n t) ≡ true
 unfolding all
@@ -152,23 +152,23 @@ whole : (t : Bytes) → length t ≡ 11 → take 10 t ++ (get_or t 10 0 ∷ []) 
 whole t n = sym (take-suc t 10 0 (omega arith)) ∙ take_all 11 t (omega arith)
 
 -- A RIGHT TAG IS THE TAG OF ITS KEY
-pub tag-only : (t : Bytes) → right_tag t ≡ true → tag_of (key_in t) ≡ t
+pub tag_only : (t : Bytes) → right_tag t ≡ true → tag_of (key_in t) ≡ t
 unfolding tag_of check_digit key_in
-tag-only t r =
+tag_only t r =
     let a = (right_is t).told r in
     let ds = all_take 10 t a.1.0 in
     let n : length (take 10 t) ≡ 10 = simp length-take (omega (arith, a.0)) in
-    let e : digits 10 (number 0 (take 10 t)) ≡ take 10 t = ap (λ (m : ℕ). digits m (number 0 (take 10 t))) (sym n) ∙ digits-only 0 (take 10 t) ds in
+    let e : digits 10 (number 0 (take 10 t)) ≡ take 10 t = ap (λ (m : ℕ). digits m (number 0 (take 10 t))) (sym n) ∙ digits_only 0 (take 10 t) ds in
     let c : get_or t 10 0 ≡ 48 + steps 0 (take 10 t) = last t a.0 a.1.0 a.1.1 ds in
     rw e (ap (λ (x : ℕ). take 10 t ++ (x ∷ [])) (sym c) ∙ whole t a.0)
   where
     last : (t : Bytes) → length t ≡ 11 → all is_digit t ≡ true → steps 0 t ≡ 0 → all is_digit (take 10 t) ≡ true → get_or t 10 0 ≡ 48 + steps 0 (take 10 t)
     last t n h z ds =
         let d = (each is_digit 0 t).told h 10 (omega arith) in
-        let u = (digit-is (get_or t 10 0)).told d in
-        let i = steps-below 0 (take 10 t) (omega arith) ds in
-        let s : step (steps 0 (take 10 t)) (digit_of (get_or t 10 0)) ≡ 0 = unfold steps in sym (steps-append 0 (take 10 t) (get_or t 10 0 ∷ [])) ∙ ap (steps 0) (whole t n) ∙ z in
-        let g = rule (steps 0 (take 10 t)) (digit_of (get_or t 10 0)) (steps 0 (take 10 t)) i (digit-below (get_or t 10 0) d) i in
+        let u = (digit_is (get_or t 10 0)).told d in
+        let i = steps_below 0 (take 10 t) (omega arith) ds in
+        let s : step (steps 0 (take 10 t)) (digit_of (get_or t 10 0)) ≡ 0 = unfold steps in sym (steps_append 0 (take 10 t) (get_or t 10 0 ∷ [])) ∙ ap (steps 0) (whole t n) ∙ z in
+        let g = rule (steps 0 (take 10 t)) (digit_of (get_or t 10 0)) (steps 0 (take 10 t)) i (digit_below (get_or t 10 0) d) i in
         let q = g.row (s ∙ sym g.diagonal) in
         omega arith
 
@@ -178,12 +178,12 @@ unfolding key_of_tag is_tag
 one_tag t k e = go (right_tag t and is_key (key_in t)) refl e
   where
     go : (u : Bool) → (right_tag t and is_key (key_in t)) ≡ u → (if u then some (key_in t) else none) ≡ some k → t ≡ tag_of k
-    go true p q = sym (tag-only t (left _ _ p)) ∙ ap tag_of (some-injective (key_in t) k q)
+    go true p q = sym (tag_only t (left _ _ p)) ∙ ap tag_of (some-injective (key_in t) k q)
     go false p q = absurd (none-ne-some k q)
 
 -- TWO KEYS HAVE TWO TAGS
-pub two-tags : (k j : ℕ) → is_key k ≡ true → is_key j ≡ true → tag_of k ≡ tag_of j → k ≡ j
-two-tags k j h i e = some-injective k j (sym (key-of-tag k h) ∙ ap key_of_tag e ∙ key-of-tag j i)
+pub two_tags : (k j : ℕ) → is_key k ≡ true → is_key j ≡ true → tag_of k ≡ tag_of j → k ≡ j
+two_tags k j h i e = some-injective k j (sym (key_of_tag_lem k h) ∙ ap key_of_tag e ∙ key_of_tag_lem j i)
 
 -- ---- station 572, by computation
 
@@ -192,16 +192,16 @@ abbrev pub tag572 : Bytes
 tag572 = 48 ∷ 48 ∷ 48 ∷ 48 ∷ 48 ∷ 48 ∷ 48 ∷ 53 ∷ 55 ∷ 50 ∷ 52 ∷ []
 
 -- STATION 572 IS TAGGED 00000005724
-pub station-572 : (tag_of 572 ≡ tag572) × (key_of_tag tag572 ≡ some 572)
+pub station_572 : (tag_of 572 ≡ tag572) × (key_of_tag tag572 ≡ some 572)
 unfolding run_tag
-station-572 = (refl, refl)
+station_572 = (refl, refl)
 
 -- 00000000000 is a right tag, of no station
-pub no-station-0 : (right_tag (tag_of 0) ≡ true) × (key_of_tag (tag_of 0) ≡ none)
+pub no_station_0 : (right_tag (tag_of 0) ≡ true) × (key_of_tag (tag_of 0) ≡ none)
 unfolding run_tag
-no-station-0 = (refl, refl)
+no_station_0 = (refl, refl)
 
 -- the last key has a tag, the number above it none
-pub last-station : (key_of_tag (tag_of 4294967295) ≡ some 4294967295) × (key_of_tag (tag_of 4294967296) ≡ none)
+pub last_station : (key_of_tag (tag_of 4294967295) ≡ some 4294967295) × (key_of_tag (tag_of 4294967296) ≡ none)
 unfolding run_tag
-last-station = (refl, refl)
+last_station = (refl, refl)

@@ -34,16 +34,16 @@ unfolding ◌or◌
 or_right true b e = refl
 or_right false b e = e
 
-pub or-false : (a b : Bool) → a or b ≡ false → (a ≡ false) × (b ≡ false)
+pub or_false : (a b : Bool) → a or b ≡ false → (a ≡ false) × (b ≡ false)
 unfolding ◌or◌
-or-false true b e = absurd (false≢true (sym e))
-or-false false b e = (refl, e)
+or_false true b e = absurd (false≢true (sym e))
+or_false false b e = (refl, e)
 
 pub same_tests : (a b : Bool) → (a ≡ true → b ≡ true) → (b ≡ true → a ≡ true) → a ≡ b
 same_tests true b f g = sym (f refl)
 same_tests false true f g = g refl
 same_tests false false f g = refl
 
-pub not-true-false : {t : Bool} → (t ≡ true → ⊥) → t ≡ false
-not-true-false {t = true} h = absurd (h refl)
-not-true-false {t = false} h = refl
+pub not_true_false : {t : Bool} → (t ≡ true → ⊥) → t ≡ false
+not_true_false {t = true} h = absurd (h refl)
+not_true_false {t = false} h = refl

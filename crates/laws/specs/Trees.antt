@@ -97,10 +97,10 @@ gathered_in t = if spoiled_in t then spoiled_sheet (epoch_of t) (roster_of t) el
 -- a tree stands in a tree
 pub data Within : Tree → Tree → Type 0 where
   itself : {t : Tree} → Within t t
-  under-put : {u t : Tree} {e sen : ℕ} {csn : Number 8} {b : Bytes} {room : ℕ} → Within u t → Within u (put t e sen csn b room)
-  under-notice : {u t : Tree} {e m n room : ℕ} → Within u t → Within u (notice t e m n room)
+  under_put : {u t : Tree} {e sen : ℕ} {csn : Number 8} {b : Bytes} {room : ℕ} → Within u t → Within u (put t e sen csn b room)
+  under_notice : {u t : Tree} {e m n room : ℕ} → Within u t → Within u (notice t e m n room)
   under_left : {u t v : Tree} {room : ℕ} → Within u t → Within u (join t v room)
-  under-right : {u t v : Tree} {room : ℕ} → Within u v → Within u (join t v room)
+  under_right : {u t v : Tree} {room : ℕ} → Within u v → Within u (join t v room)
 
 -- opens all of these, for a proof by computation
 unfoldable pub run_trees : Unit {0}

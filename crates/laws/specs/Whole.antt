@@ -18,10 +18,10 @@ use Rattle.rules.specs.Sheet.{WriteSet, Sheet, change, insert, delete, sound_she
 use Rattle.rules.specs.Closing.{present, fit_record, names, mark_in}
 use Rattle.rules.specs.Becoming.{applied, applied_to, value_by, is_deleted, mark_by, mark_after, row_after, inserted_row, rows_after}
 use Rattle.laws.specs.ListLaws.{any→, →any}
-use Rattle.laws.specs.Commits.{names-own}
-use Rattle.laws.specs.Choice.{Choice, Unnamed, →committed_on-none, committed_on-is}
-use Rattle.laws.specs.Applied.{applied→, →applied, applied-each, applied-fits, applied_to-is, applied_to-none}
-use Rattle.laws.specs.NextRows.{remains, row_after→, →row_after, key-stays, next→, →next-old, →next-insert, insert-absent}
+use Rattle.laws.specs.Commits.{names_own}
+use Rattle.laws.specs.Choice.{Choice, Unnamed, →committed_on_none, committed_on_is}
+use Rattle.laws.specs.Applied.{applied→, →applied, applied_each, applied_fits, applied_to_is, applied_to_none}
+use Rattle.laws.specs.NextRows.{remains, row_after→, →row_after, key_stays, next→, →next_old, →next_insert, insert_absent}
 
 -- one of the rows has this key and value
 abbrev pub Stands : List Row → ℕ → ℕ → Type 0
@@ -47,10 +47,10 @@ module _ (g : Register) (s : Sheet) (c : List WriteSet) where
 
   module _ (h : Choice g s c) where
     -- a record that is no insert names a row of the old register
-    pub names-old : (r : Record) → Memᴰ r (applied c) → (r.kind ≡ insert → ⊥) → (row : Row) × Memᴰ row g.rows × (row.key ≡ r.key)
+    pub names_old : (r : Record) → Memᴰ r (applied c) → (r.kind ≡ insert → ⊥) → (row : Row) × Memᴰ row g.rows × (row.key ≡ r.key)
     unfolding fit_record
-    names-old r m n =
-        let f : fit_record g r ≡ true = applied-fits g s c h r m in
+    names_old r m n =
+        let f : fit_record g r ≡ true = applied_fits g s c h r m in
         present→ g r.key (simp (ne_eqb r.kind insert n) at f)
 
     -- A ROW OF THE NEXT REGISTER THAT A COMMITTED SET NAMES BEARS ITS MARK
@@ -65,77 +65,77 @@ module _ (g : Register) (s : Sheet) (c : List WriteSet) where
         by : (old : Mark) {k v : ℕ} → x ≡ record { key = k; value = v; mark = mark_after s c k old } → x.mark ≡ mark_in s w
         by old e =
             ap (λ (r : Row). r.mark) e ∙ ap (λ (j : ℕ). mark_after s c j old) (sym (ap key_of e))
-            ∙ ap (mark_by s old) (committed_on-is g s c h x.key w i n)
+            ∙ ap (mark_by s old) (committed_on_is g s c h x.key w i n)
 
     module _ (sound : sound_sheet s ≡ true) where
-      applied-is : (r : Record) → Memᴰ r (applied c) → applied_to (applied c) r.key ≡ some r
-      applied-is r m = applied_to-is (applied c) r (applied-each g s c h sound) m
+      applied_is : (r : Record) → Memᴰ r (applied c) → applied_to (applied c) r.key ≡ some r
+      applied_is r m = applied_to_is (applied c) r (applied_each g s c h sound) m
 
-      pub is-deleted : (r : Record) → Memᴰ r (applied c) → is_deleted (applied_to (applied c) r.key) ≡ eqb r.kind delete
+      pub is_deleted_lem : (r : Record) → Memᴰ r (applied c) → is_deleted (applied_to (applied c) r.key) ≡ eqb r.kind delete
       unfolding is_deleted
-      is-deleted r m = ap is_deleted (applied-is r m)
+      is_deleted_lem r m = ap is_deleted (applied_is r m)
 
-      stands-changed : (r : Record) → Memᴰ r (applied c) → r.kind ≡ change → Stands (rows_after s c g.rows) r.key r.value
+      stands_changed : (r : Record) → Memᴰ r (applied c) → r.kind ≡ change → Stands (rows_after s c g.rows) r.key r.value
       unfolding value_by
-      stands-changed r m e =
-          let o = names-old r m (λ i. absurd (omega arith)) in
+      stands_changed r m e =
+          let o = names_old r m (λ i. absurd (omega arith)) in
           let d : is_deleted (applied_to (applied c) o.0.key) ≡ false =
-          ap (λ (k : ℕ). is_deleted (applied_to (applied c) k)) o.2 ∙ is-deleted r m ∙ ne_eqb r.kind delete (λ i. absurd (omega arith)) in (
+          ap (λ (k : ℕ). is_deleted (applied_to (applied c) k)) o.2 ∙ is_deleted_lem r m ∙ ne_eqb r.kind delete (λ i. absurd (omega arith)) in (
             _,
-            →next-old g s c o.0 _ o.1 (→row_after s c o.0 d),
+            →next_old g s c o.0 _ o.1 (→row_after s c o.0 d),
             o.2,
-            ap (λ (k : ℕ). value_by (applied_to (applied c) k) o.0.value) o.2 ∙ ap (λ (a : Option Record). value_by a o.0.value) (applied-is r m),
+            ap (λ (k : ℕ). value_by (applied_to (applied c) k) o.0.value) o.2 ∙ ap (λ (a : Option Record). value_by a o.0.value) (applied_is r m),
           )
 
-      stands-inserted : (r : Record) → Memᴰ r (applied c) → r.kind ≡ insert → Stands (rows_after s c g.rows) r.key r.value
+      stands_inserted : (r : Record) → Memᴰ r (applied c) → r.kind ≡ insert → Stands (rows_after s c g.rows) r.key r.value
       unfolding inserted_row
-      stands-inserted r m e = (inserted_row s c r, →next-insert g s c r m e, refl, refl)
+      stands_inserted r m e = (inserted_row s c r, →next_insert g s c r m e, refl, refl)
 
-      absent-deleted : (r : Record) → Memᴰ r (applied c) → r.kind ≡ delete → Absent (rows_after s c g.rows) r.key
+      absent_deleted : (r : Record) → Memᴰ r (applied c) → r.kind ≡ delete → Absent (rows_after s c g.rows) r.key
       unfolding inserted_row
-      absent-deleted r m e x k q =
+      absent_deleted r m e x k q =
           ⊎_elim
           (λ p.
           let a = row_after→ s c p.0 x p.2 in
-          let i : p.0.key ≡ r.key = sym (key-stays s c p.0 x p.2) ∙ q in
-          false≢true (sym a.0 ∙ ap (λ (k : ℕ). is_deleted (applied_to (applied c) k)) i ∙ is-deleted r m ∙ eq-eqb r.kind delete e))
+          let i : p.0.key ≡ r.key = sym (key_stays s c p.0 x p.2) ∙ q in
+          false≢true (sym a.0 ∙ ap (λ (k : ℕ). is_deleted (applied_to (applied c) k)) i ∙ is_deleted_lem r m ∙ eq-eqb r.kind delete e))
           (λ p.
-          let o = names-old r m (λ i. absurd (omega arith)) in
-          insert-absent g s c h p.0 p.1 p.2 o.0 o.1 (o.2 ∙ sym q ∙ ap key_of p.3))
+          let o = names_old r m (λ i. absurd (omega arith)) in
+          insert_absent g s c h p.0 p.1 p.2 o.0 o.1 (o.2 ∙ sym q ∙ ap key_of p.3))
           (next→ g s c x k)
 
       -- AFTER A COMMIT EVERY RECORD OF THE SET STANDS IN THE NEXT REGISTER
       pub whole : (w : WriteSet) → Memᴰ w c → (r : Record) → Memᴰ r w.records → Done (rows_after s c g.rows) r
       whole w m r k =
-          let a = →applied c r (record { set = w; committed = m; in-set = k }) in
-          record { changed = stands-changed r a; inserted = stands-inserted r a; deleted = absent-deleted r a }
+          let a = →applied c r (record { set = w; committed = m; in_set = k }) in
+          record { changed = stands_changed r a; inserted = stands_inserted r a; deleted = absent_deleted r a }
 
   -- ---- a key that no committed set names
 
-  unnamed-none : (k : ℕ) → Unnamed c k → applied_to (applied c) k ≡ none
-  unnamed-none k u =
-      applied_to-none (applied c) k
-      (λ r m e. let a = applied→ c r m in u a.set a.committed (ap (names a.set) (sym e) ∙ names-own a.set r a.in-set))
+  unnamed_none : (k : ℕ) → Unnamed c k → applied_to (applied c) k ≡ none
+  unnamed_none k u =
+      applied_to_none (applied c) k
+      (λ r m e. let a = applied→ c r m in u a.set a.committed (ap (names a.set) (sym e) ∙ names_own a.set r a.in_set))
 
   -- A ROW THAT NO COMMITTED SET NAMES BECOMES ITSELF, MARK INCLUDED
-  pub not-at-all : (row : Row) → Unnamed c row.key → row_after s c row ≡ row ∷ []
+  pub not_at_all : (row : Row) → Unnamed c row.key → row_after s c row ≡ row ∷ []
   unfolding is_deleted value_by mark_after mark_by
-  not-at-all row u =
-      let n = unnamed-none row.key u in
+  not_at_all row u =
+      let n = unnamed_none row.key u in
       remains s c row (ap is_deleted n)
-      ∙ (λ i. record { key = row.key; value = value_by (n i) row.value; mark = mark_by s row.mark (→committed_on-none c row.key u i) } ∷ [])
+      ∙ (λ i. record { key = row.key; value = value_by (n i) row.value; mark = mark_by s row.mark (→committed_on_none c row.key u i) } ∷ [])
 
   -- SO IT STANDS IN THE NEXT REGISTER AS IT STOOD
   pub stays : (row : Row) → Memᴰ row g.rows → Unnamed c row.key → Memᴰ row (rows_after s c g.rows)
-  stays row m u = →next-old g s c row row m (rw (not-at-all row u) (Memᴰ.head refl))
+  stays row m u = →next_old g s c row row m (rw (not_at_all row u) (Memᴰ.head refl))
 
   -- AND AN ABSENT KEY STAYS ABSENT
-  pub stays-absent : (k : ℕ) → present g k ≡ false → Unnamed c k → Absent (rows_after s c g.rows) k
+  pub stays_absent : (k : ℕ) → present g k ≡ false → Unnamed c k → Absent (rows_after s c g.rows) k
   unfolding present inserted_row
-  stays-absent k e u x m q =
+  stays_absent k e u x m q =
       ⊎_elim
-      (λ p. false≢true (sym e ∙ →any (λ r. eqb r.key k) p.1 (eq-eqb _ _ (sym (key-stays s c p.0 x p.2) ∙ q))))
+      (λ p. false≢true (sym e ∙ →any (λ r. eqb r.key k) p.1 (eq-eqb _ _ (sym (key_stays s c p.0 x p.2) ∙ q))))
       (λ p.
       let a = applied→ c p.0 p.1 in
-      u a.set a.committed (ap (names a.set) (sym q ∙ ap key_of p.3) ∙ names-own a.set p.0 a.in-set))
+      u a.set a.committed (ap (names a.set) (sym q ∙ ap key_of p.3) ∙ names_own a.set p.0 a.in_set))
       (next→ g s c x m)

@@ -16,15 +16,15 @@ use Rattle.rules.specs.Register.{Register}
 use Rattle.rules.specs.Sheet.{WriteSet, Sheet, csn_of, sound_sheet}
 use Rattle.rules.specs.Closing.{fit, names, claims, claimants, mark_in, foremost, winner, is_set, wins}
 use Rattle.laws.specs.Tests.{left, right, both, or→, or_left, or_right}
-use Rattle.laws.specs.ListLaws.{→all, all→, keep→, →keep, first→, first-none}
+use Rattle.laws.specs.ListLaws.{→all, all→, keep→, →keep, first→, first_none}
 use Rattle.laws.specs.Precedence.{transitive, asymmetric, total}
-use Rattle.laws.specs.Rising.{rising-one}
-use Rattle.laws.specs.Distinct.{Apart, sheet-sorted}
+use Rattle.laws.specs.Rising.{rising_one}
+use Rattle.laws.specs.Distinct.{Apart, sheet_sorted}
 
 -- ---- the sets of a sound sheet are in order, so no two share a commit number
 
-pub sheet-apart : (s : Sheet) → sound_sheet s ≡ true → Apart s.sets
-sheet-apart s e v w m k c = rising-one csn_of (sheet-sorted s e) m k c
+pub sheet_apart : (s : Sheet) → sound_sheet s ≡ true → Apart s.sets
+sheet_apart s e v w m k c = rising_one csn_of (sheet_sorted s e) m k c
 
 -- ---- the one that precedes all others
 
@@ -56,9 +56,9 @@ leader s w (u ∷ us) a =
     pick b m l false p d =
         (b, Memᴰ.tail m, λ v k. ⊎_elim (λ q. inr (ap (λ (x : WriteSet). precedes (mark_in s b) (mark_in s x)) q ∙ total _ _ d p)) (λ q. l v q) (Memᴰ.cases_cons k))
 
-pub leader-of : (s : Sheet) (ws : List WriteSet) {w : WriteSet} → Apart ws → Memᴰ w ws → (v : WriteSet) × Memᴰ v ws × Leads s ws v
-leader-of s [] a m = absurd (Memᴰ.not-nil m)
-leader-of s (x ∷ xs) a m = leader s x xs a
+pub leader_of : (s : Sheet) (ws : List WriteSet) {w : WriteSet} → Apart ws → Memᴰ w ws → (v : WriteSet) × Memᴰ v ws × Leads s ws v
+leader_of s [] a m = absurd (Memᴰ.not-nil m)
+leader_of s (x ∷ xs) a m = leader s x xs a
 
 pub →foremost : (s : Sheet) (ws : List WriteSet) (w : WriteSet) → Leads s ws w → foremost s ws w ≡ true
 unfolding foremost
@@ -78,28 +78,28 @@ leads_one s ws v w m n p q =
 module _ (g : Register) (s : Sheet) (k : ℕ) where
   -- a set of the sheet that is fit and names the key
   pub record Claims (w : WriteSet) : Type 0 where
-    pub in-sheet : Memᴰ w s.sets
-    pub is-fit : fit g w ≡ true
+    pub in_sheet : Memᴰ w s.sets
+    pub is_fit : fit g w ≡ true
     pub named : names w k ≡ true
 
   pub claimants→ : (w : WriteSet) → Memᴰ w (claimants g s k) → Claims w
   unfolding claimants claims
-  claimants→ w m = let r = keep→ _ s.sets m in record { in-sheet = r.0; is-fit = left _ _ r.1; named = right _ _ r.1 }
+  claimants→ w m = let r = keep→ _ s.sets m in record { in_sheet = r.0; is_fit = left _ _ r.1; named = right _ _ r.1 }
 
   pub →claimants : (w : WriteSet) → Claims w → Memᴰ w (claimants g s k)
   unfolding claimants claims
-  →claimants w c = →keep (λ v. claims g v k) c.in-sheet (both c.is-fit c.named)
+  →claimants w c = →keep (λ v. claims g v k) c.in_sheet (both c.is_fit c.named)
 
-  pub claimants-apart : Apart s.sets → Apart (claimants g s k)
-  claimants-apart a v w m n c = a v w (claimants→ v m).in-sheet (claimants→ w n).in-sheet c
+  pub claimants_apart : Apart s.sets → Apart (claimants g s k)
+  claimants_apart a v w m n c = a v w (claimants→ v m).in_sheet (claimants→ w n).in_sheet c
 
   -- the winner of the key: a claimant that precedes all others
   pub record Wins (w : WriteSet) : Type 0 where
     pub claimant : Claims w
-    pub precedes-others : (v : WriteSet) → Claims v → (v ≡ w) ⊎ (precedes (mark_in s w) (mark_in s v) ≡ true)
+    pub precedes_others : (v : WriteSet) → Claims v → (v ≡ w) ⊎ (precedes (mark_in s w) (mark_in s v) ≡ true)
 
-  wins-leads : (w : WriteSet) → Wins w → Leads s (claimants g s k) w
-  wins-leads w h v m = h.precedes-others v (claimants→ v m)
+  wins_leads : (w : WriteSet) → Wins w → Leads s (claimants g s k) w
+  wins_leads w h v m = h.precedes_others v (claimants→ v m)
 
   pub winner→ : (w : WriteSet) → Apart s.sets → winner g s k ≡ some w → Wins w
   unfolding winner
@@ -108,36 +108,36 @@ module _ (g : Register) (s : Sheet) (k : ℕ) where
       let c = claimants→ w r.0 in
       record {
         claimant = c;
-        precedes-others = λ v d. ⊎_elim (λ q. inl (a v w d.in-sheet c.in-sheet q)) inr (foremost→ s (claimants g s k) v w r.1 (→claimants v d));
+        precedes_others = λ v d. ⊎_elim (λ q. inl (a v w d.in_sheet c.in_sheet q)) inr (foremost→ s (claimants g s k) v w r.1 (→claimants v d));
       }
 
   -- a key that is claimed has a winner
-  pub winner-exists : (w : WriteSet) → Apart s.sets → Claims w → (v : WriteSet) × (winner g s k ≡ some v)
+  pub winner_exists : (w : WriteSet) → Apart s.sets → Claims w → (v : WriteSet) × (winner g s k ≡ some v)
   unfolding winner
-  winner-exists w a m = go (first (foremost s (claimants g s k)) (claimants g s k)) refl
+  winner_exists w a m = go (first (foremost s (claimants g s k)) (claimants g s k)) refl
     where
       go : (o : Option WriteSet) → first (foremost s (claimants g s k)) (claimants g s k) ≡ o → (v : WriteSet) × (first (foremost s (claimants g s k)) (claimants g s k) ≡ some v)
       go (some v) e = (v, e)
       go none e =
-          let r = leader-of s (claimants g s k) (claimants-apart a) (→claimants w m) in
-          absurd (false≢true (sym (first-none (foremost s (claimants g s k)) (claimants g s k) e r.0 r.1) ∙ →foremost s (claimants g s k) r.0 r.2))
+          let r = leader_of s (claimants g s k) (claimants_apart a) (→claimants w m) in
+          absurd (false≢true (sym (first_none (foremost s (claimants g s k)) (claimants g s k) e r.0 r.1) ∙ →foremost s (claimants g s k) r.0 r.2))
 
   -- and one that is not has none
-  pub winner-none : Apart s.sets → ((w : WriteSet) → Claims w → ⊥) → winner g s k ≡ none
-  winner-none a h = go (winner g s k) refl
+  pub winner_none : Apart s.sets → ((w : WriteSet) → Claims w → ⊥) → winner g s k ≡ none
+  winner_none a h = go (winner g s k) refl
     where
       go : (o : Option WriteSet) → winner g s k ≡ o → o ≡ none
       go none e = refl
       go (some w) e = absurd (h w (winner→ w a e).claimant)
 
   -- no two win it
-  pub wins-one : (v w : WriteSet) → Wins v → Wins w → v ≡ w
-  wins-one v w p q =
-      leads_one s (claimants g s k) v w (→claimants v p.claimant) (→claimants w q.claimant) (wins-leads v p) (wins-leads w q)
+  pub wins_one : (v w : WriteSet) → Wins v → Wins w → v ≡ w
+  wins_one v w p q =
+      leads_one s (claimants g s k) v w (→claimants v p.claimant) (→claimants w q.claimant) (wins_leads v p) (wins_leads w q)
 
   -- a claimant that precedes all others is the winner
-  pub winner-is : (w : WriteSet) → Apart s.sets → Wins w → winner g s k ≡ some w
-  winner-is w a h = let r = winner-exists w a h.claimant in r.1 ∙ ap some (wins-one r.0 w (winner→ r.0 a r.1) h)
+  pub winner_is : (w : WriteSet) → Apart s.sets → Wins w → winner g s k ≡ some w
+  winner_is w a h = let r = winner_exists w a h.claimant in r.1 ∙ ap some (wins_one r.0 w (winner→ r.0 a r.1) h)
 
   -- the test of the definition, as a fact
   is_set→ : (w : WriteSet) (o : Option WriteSet) → is_set w o ≡ true → (v : WriteSet) × (o ≡ some v) × (v.csn ≡ w.csn)
@@ -149,17 +149,17 @@ module _ (g : Register) (s : Sheet) (k : ℕ) where
   unfolding wins
   wins→ w a m e =
       let r = is_set→ w (winner g s k) e in
-      r.1 ∙ ap some (a r.0 w (winner→ r.0 a r.1).claimant.in-sheet m r.2)
+      r.1 ∙ ap some (a r.0 w (winner→ r.0 a r.1).claimant.in_sheet m r.2)
 
   pub →wins : (w : WriteSet) → winner g s k ≡ some w → wins g s w k ≡ true
   unfolding wins is_set
   →wins w e = ap (is_set w) e ∙ eq-eqb w.csn w.csn refl
 
 -- EVERY KEY CLAIMED BY A FIT SET OF A SOUND SHEET HAS EXACTLY ONE WINNER, A CLAIMANT THAT PRECEDES ALL OTHERS
-pub one-winner : (g : Register) (s : Sheet) (k : ℕ) (w : WriteSet) → sound_sheet s ≡ true → Claims g s k w
+pub one_winner : (g : Register) (s : Sheet) (k : ℕ) (w : WriteSet) → sound_sheet s ≡ true → Claims g s k w
     → (v : WriteSet) × (winner g s k ≡ some v) × Wins g s k v × ((u : WriteSet) → Wins g s k u → u ≡ v)
-one-winner g s k w e c =
-    let a = sheet-apart s e in
-    let r = winner-exists g s k w a c in
+one_winner g s k w e c =
+    let a = sheet_apart s e in
+    let r = winner_exists g s k w a c in
     let h = winner→ g s k r.0 a r.1 in
-    (r.0, r.1, h, λ u i. wins-one g s k u r.0 i h)
+    (r.0, r.1, h, λ u i. wins_one g s k u r.0 i h)

@@ -36,12 +36,12 @@ DoesNothing c = (r t next verdicts : Bytes) → ((c r t next verdicts).next ≡ 
 
 -- a row of the register that a closing writes of r and t into these buffers
 pub record WritesRow (c : Closer) (r t next verdicts : Bytes) (x : Row) : Type 0 where
-  pub register-long : ℕ
-  pub verdicts-long : ℕ
-  pub answers : (c r t next verdicts).answer ≡ Wrote register-long verdicts-long
+  pub register_long : ℕ
+  pub verdicts_long : ℕ
+  pub answers : (c r t next verdicts).answer ≡ Wrote register_long verdicts_long
   pub register : Register
-  pub reads : read_register (take register-long (c r t next verdicts).next) ≡ some register
-  pub in-it : Memᴰ x register.rows
+  pub reads : read_register (take register_long (c r t next verdicts).next) ≡ some register
+  pub in_it : Memᴰ x register.rows
 
 -- STAMPING BY LOSERS, the rule before L1: a row that has a winner bears its mark, even if that set lost elsewhere
 abbrev pub LosersStamp : Closer → Type 0
@@ -85,14 +85,14 @@ asks c d xs k e next verdicts n m =
     let h = w.2 in
     d.closes (register_bytes R) (sheet_of xs) next verdicts w.0 w.1
     (record {
-      reads-register = h.reads-register;
-      reads-sheet = h.reads-sheet;
+      reads_register = h.reads_register;
+      reads_sheet = h.reads_sheet;
       follows = h.follows;
       unspoiled = h.unspoiled;
-      all-sent = h.all-sent;
+      all_sent = h.all_sent;
       few = h.few;
-      next-room = n;
-      verdict-room = m;
+      next_room_lem = n;
+      verdict_room_lem = m;
     })
     ∙ ap (λ (c : Closing). writes c next verdicts) (sym w.3)
 
@@ -103,13 +103,13 @@ rejected c xs h d = h (asks c d xs)
 zeros : ℕ → Bytes
 zeros n = replicate n 0
 
-zeros-long : (n : ℕ) → n ≤ length (zeros n)
+zeros_long : (n : ℕ) → n ≤ length (zeros n)
 unfolding zeros
-zeros-long n = omega (arith, length-replicate {A = ℕ} n 0)
+zeros_long n = omega (arith, length-replicate {A = ℕ} n 0)
 
-zeros-first : (n : ℕ) → 0 < n → get_or (zeros n) 0 0 ≡ 0
+zeros_first : (n : ℕ) → 0 < n → get_or (zeros n) 0 0 ≡ 0
 unfolding zeros
-zeros-first n h = get_or-replicate n 0 0 0 h
+zeros_first n h = get_or-replicate n 0 0 0 h
 
 -- what a closing does with R and an example's sheet in buffers of zeros
 abbrev on : Closer → List Step → Left
@@ -117,7 +117,7 @@ on c xs = c (register_bytes R) (sheet_of xs) (zeros register_room) (zeros verdic
 
 asked : (c : Closer) (xs : List Step) (k : Closing) → close_outcome (register_bytes R) (sheet_of xs) register_room verdict_room ≡ done k → AsksOn c xs
     → on c xs ≡ writes k (zeros register_room) (zeros verdict_room)
-asked c xs k e h = h k e (zeros register_room) (zeros verdict_room) (zeros-long register_room) (zeros-long verdict_room)
+asked c xs k e h = h k e (zeros register_room) (zeros verdict_room) (zeros_long register_room) (zeros_long verdict_room)
 
 -- 0 for a refusal, else one more than the length of the verdicts
 abbrev answered : Closed → ℕ
@@ -125,42 +125,42 @@ answered (Wrote i j) = j + 1
 answered (Refused x) = 0
 
 -- A closes with two verdicts of 5 bytes
-asked-A : (c : Closer) → AsksOn c A → answered (on c A).answer ≡ 11
+asked_A : (c : Closer) → AsksOn c A → answered (on c A).answer ≡ 11
 unfolding run_refused
-asked-A c h = ap (λ (l : Left). answered l.answer) (asked c A _ refl h)
+asked_A c h = ap (λ (l : Left). answered l.answer) (asked c A _ refl h)
 
 -- N with none
-asked-N : (c : Closer) → AsksOn c N → answered (on c N).answer ≡ 1
+asked_N : (c : Closer) → AsksOn c N → answered (on c N).answer ≡ 1
 unfolding run_refused
-asked-N c h = ap (λ (l : Left). answered l.answer) (asked c N _ refl h)
+asked_N c h = ap (λ (l : Left). answered l.answer) (asked c N _ refl h)
 
-pub refusing-on-A : (c : Closer) → RefusesAlways c → Rejects c A
-refusing-on-A c w h = let z : ◌≡◌ {A = ℕ} 0 11 = sym (ap answered (w _ _ _ _).1) ∙ asked-A c h in omega arith
+pub refusing_on_A : (c : Closer) → RefusesAlways c → Rejects c A
+refusing_on_A c w h = let z : ◌≡◌ {A = ℕ} 0 11 = sym (ap answered (w _ _ _ _).1) ∙ asked_A c h in omega arith
 
-pub refusing-on-N : (c : Closer) → RefusesAlways c → Rejects c N
-refusing-on-N c w h = let z : ◌≡◌ {A = ℕ} 0 1 = sym (ap answered (w _ _ _ _).1) ∙ asked-N c h in omega arith
+pub refusing_on_N : (c : Closer) → RefusesAlways c → Rejects c N
+refusing_on_N c w h = let z : ◌≡◌ {A = ℕ} 0 1 = sym (ap answered (w _ _ _ _).1) ∙ asked_N c h in omega arith
 
-pub refusing-always-fails : (c : Closer) → RefusesAlways c → Demand2 c → ⊥
-refusing-always-fails c w d = rejected c A (refusing-on-A c w) d
+pub refusing_always_fails : (c : Closer) → RefusesAlways c → Demand2 c → ⊥
+refusing_always_fails c w d = rejected c A (refusing_on_A c w) d
 
 -- one answer cannot be both A's and N's
-pub alike-on-A-and-N : (c : Closer) → AnswersAlike c → AsksOn c A → AsksOn c N → ⊥
-alike-on-A-and-N c w h k =
-    let z : ◌≡◌ {A = ℕ} 11 1 = sym (asked-A c h) ∙ ap answered (w.1 _ _ _ _ ∙ sym (w.1 _ _ _ _)) ∙ asked-N c k in omega arith
+pub alike_on_A_and_N : (c : Closer) → AnswersAlike c → AsksOn c A → AsksOn c N → ⊥
+alike_on_A_and_N c w h k =
+    let z : ◌≡◌ {A = ℕ} 11 1 = sym (asked_A c h) ∙ ap answered (w.1 _ _ _ _ ∙ sym (w.1 _ _ _ _)) ∙ asked_N c k in omega arith
 
-pub answering-alike-fails : (c : Closer) → AnswersAlike c → Demand2 c → ⊥
-answering-alike-fails c w d = alike-on-A-and-N c w (asks c d A) (asks c d N)
+pub answering_alike_fails : (c : Closer) → AnswersAlike c → Demand2 c → ⊥
+answering_alike_fails c w d = alike_on_A_and_N c w (asks c d A) (asks c d N)
 
 -- the next register of A begins with its snapshot, 1
-pub nothing-on-A : (c : Closer) → DoesNothing c → Rejects c A
+pub nothing_on_A : (c : Closer) → DoesNothing c → Rejects c A
 unfolding run_refused over
-nothing-on-A c w h =
+nothing_on_A c w h =
     let z : get_or (zeros register_room) 0 0 ≡ 1 = ap (λ (l : Bytes). get_or l 0 0) (sym (w _ _ _ _).0 ∙ ap (λ (l : Left). l.next) (asked c A _ refl h)) in
-    let first = zeros-first register_room (omega arith) in
+    let first = zeros_first register_room (omega arith) in
     omega arith
 
-pub doing-nothing-fails : (c : Closer) → DoesNothing c → Demand2 c → ⊥
-doing-nothing-fails c w d = rejected c A (nothing-on-A c w) d
+pub doing_nothing_fails : (c : Closer) → DoesNothing c → Demand2 c → ⊥
+doing_nothing_fails c w d = rejected c A (nothing_on_A c w) d
 
 -- ---- marks
 
@@ -171,33 +171,33 @@ row_written : (c : Closer) (xs : List Step) (k : Closing) (g : Register) → clo
 row_written c xs k g e q h x m =
     let l = asked c xs k e h in
     record {
-      register-long = length k.register;
-      verdicts-long = length k.verdicts;
+      register_long = length k.register;
+      verdicts_long = length k.verdicts;
       answers = ap (λ (y : Left). y.answer) l;
       register = g;
       reads = ap read_register (sym (written (zeros register_room) k.register (length k.register) refl (ap (λ (y : Left). y.next) l))) ∙ q;
-      in-it = m;
+      in_it = m;
     }
 
 -- C's row 20 is won by csn 5, which is lost
-pub losers-on-C : (c : Closer) → LosersStamp c → Rejects c C
+pub losers_on_C : (c : Closer) → LosersStamp c → Rejects c C
 unfolding run_refused
-losers-on-C c w h =
+losers_on_C c w h =
     let x = row_written c C _ _ refl refl h _ (Memᴰ.tail (Memᴰ.head refl)) in
     let z : ◌≡◌ {A = ℕ} 0 1 = ap (λ (m : Mark). m.cen) (w _ _ _ _ _ _ refl refl _ _ x refl) in
     omega arith
 
-pub losers-stamp-fails : (c : Closer) → LosersStamp c → Demand2 c → ⊥
-losers-stamp-fails c w d = rejected c C (losers-on-C c w) d
+pub losers_stamp_fails : (c : Closer) → LosersStamp c → Demand2 c → ⊥
+losers_stamp_fails c w d = rejected c C (losers_on_C c w) d
 
 -- the second of three rows that a set changes
-pub first-on-three : (c : Closer) → FirstRowStamped c → Rejects c three_rows
+pub first_on_three : (c : Closer) → FirstRowStamped c → Rejects c three_rows
 unfolding run_refused
-first-on-three c w h =
+first_on_three c w h =
     let x = row_written c three_rows _ _ refl refl h _ (Memᴰ.tail (Memᴰ.head refl)) in
     let z : ◌≡◌ {A = ℕ} 1 0 =
     ap (λ (m : Mark). m.cen) (w _ _ _ _ _ _ refl refl _ _ _ _ _ (Memᴰ.tail (Memᴰ.head refl)) x refl (Memᴰ.head refl) refl refl) in
     omega arith
 
-pub first-row-stamped-fails : (c : Closer) → FirstRowStamped c → Demand2 c → ⊥
-first-row-stamped-fails c w d = rejected c three_rows (first-on-three c w) d
+pub first_row_stamped_fails : (c : Closer) → FirstRowStamped c → Demand2 c → ⊥
+first_row_stamped_fails c w d = rejected c three_rows (first_on_three c w) d

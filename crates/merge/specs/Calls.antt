@@ -19,17 +19,17 @@ use Rattle.rules.specs.Refused.{Outcome, refused, done, Closing, open_outcome, p
 use Rattle.rules.specs.Promises.{Promise, ClosePromise, OfferPromise}
 use Rattle.rules.specs.Applies.{to_close, Foremost}
 use Rattle.laws.specs.GatherSound.{Head}
-use Rattle.laws.specs.NotRefused.{refused-not}
-use Rattle.laws.specs.Exactly.{open-exactly, put-exactly, notice-exactly, join-exactly, close-exactly, offer-exactly}
-use Rattle.laws.specs.Kept.{Numbered, numbered, refused-foremost, written, kept-done, kept-length, kept-lengths, kept-refused, kept-done-closing, kept-refused-closing, kept-wrote-closing, kept-refuses-closing, kept-offered}
-use Rattle.laws.specs.OpenSets.{offers-own}
+use Rattle.laws.specs.NotRefused.{refused_not}
+use Rattle.laws.specs.Exactly.{open_exactly, put_exactly, notice_exactly, join_exactly, close_exactly, offer_exactly}
+use Rattle.laws.specs.Kept.{Numbered, numbered, refused_foremost, written, kept_done, kept_length, kept_lengths, kept_refused, kept_done_closing, kept_refused_closing, kept_wrote_closing, kept_refuses_closing, kept_offered}
+use Rattle.laws.specs.OpenSets.{offers_own}
 use Rattle.laws.specs.Trees.{Number, Tree, opened, put, notice, join, given, paper, and_then, ends, epoch_of, roster_of, gathered_in}
-use Rattle.laws.specs.Demand3.{demand-3}
+use Rattle.laws.specs.Demand3.{demand_3}
 use Rattle.laws.specs.FairTrees.{FairTree}
 use Rattle.laws.specs.NeverStuck.{never_stuck}
 use Rattle.laws.specs.SameBytes.{SameOffers, same_ended}
-use Rattle.laws.specs.SameClosing.{LongEnough, same-ended-closing}
-use Rattle.laws.specs.ClosingWrites.{Gives, closing-writes}
+use Rattle.laws.specs.SameClosing.{LongEnough, same_ended_closing}
+use Rattle.laws.specs.ClosingWrites.{Gives, closing_writes}
 
 -- the calls of a tree were made: the last of them answered this and left this in its buffer, and those before it answered success
 pub data Called : Tree → Answer → Bytes → Type 0 where
@@ -51,84 +51,84 @@ AnsweredBy o (Refused x) after = o ≡ refused (refusal_number x)
 
 -- ---- the calls of a tree do what the tree says
 
-kept-tells : (o : Outcome Bytes) → Numbered o → {before after : Bytes} (a : Answer) → Promise o before a after → AnsweredBy o a after
-kept-tells o h (Wrote n) p = kept-done o h p
-kept-tells o h (Refused x) p = (kept-refused o p).0
+kept_tells : (o : Outcome Bytes) → Numbered o → {before after : Bytes} (a : Answer) → Promise o before a after → AnsweredBy o a after
+kept_tells o h (Wrote n) p = kept_done o h p
+kept_tells o h (Refused x) p = (kept_refused o p).0
 
 -- THE LAST CALL OF A TREE ANSWERS THE TREE'S OUTCOME
-pub calls-tell : {t : Tree} {a : Answer} {after : Bytes} → Called t a after → AnsweredBy (ends paper t) a after
+pub calls_tell : {t : Tree} {a : Answer} {after : Bytes} → Called t a after → AnsweredBy (ends paper t) a after
 unfolding ends and_then
-calls-tell (opens e r before {a} p) = kept-tells (open_outcome e.value r.value (length before)) (numbered (open-exactly e.value r.value (length before))) a p
-calls-tell (puts {t} {n} {held} c e sen csn b before {a} {after} p) =
-    subst (λ (o : Outcome Bytes). AnsweredBy (and_then o (λ s. put_outcome s e sen csn.value b (length before))) a after) (sym (calls-tell c))
-    (kept-tells (put_outcome (take n held) e sen csn.value b (length before)) (numbered (put-exactly (take n held) e sen csn.value b (length before))) a p)
-calls-tell (notices {t} {n} {held} c e m k before {a} {after} p) =
-    subst (λ (o : Outcome Bytes). AnsweredBy (and_then o (λ s. notice_outcome s e m k (length before))) a after) (sym (calls-tell c))
-    (kept-tells (notice_outcome (take n held) e m k (length before)) (numbered (notice-exactly (take n held) e m k (length before))) a p)
-calls-tell (joins {t} {u} {n} {m} {held} {other} c d before {a} {after} p) =
-    subst (λ (o : Outcome Bytes). AnsweredBy (and_then o (λ x. and_then (ends paper u) (λ y. join_outcome x y (length before)))) a after) (sym (calls-tell c))
-    (subst (λ (o : Outcome Bytes). AnsweredBy (and_then o (λ y. join_outcome (take n held) y (length before))) a after) (sym (calls-tell d))
-    (kept-tells (join_outcome (take n held) (take m other) (length before)) (numbered (join-exactly (take n held) (take m other) (length before))) a p))
-calls-tell (begins b g) = ap done (sym (take_all (length b) b (omega arith)))
+calls_tell (opens e r before {a} p) = kept_tells (open_outcome e.value r.value (length before)) (numbered (open_exactly e.value r.value (length before))) a p
+calls_tell (puts {t} {n} {held} c e sen csn b before {a} {after} p) =
+    subst (λ (o : Outcome Bytes). AnsweredBy (and_then o (λ s. put_outcome s e sen csn.value b (length before))) a after) (sym (calls_tell c))
+    (kept_tells (put_outcome (take n held) e sen csn.value b (length before)) (numbered (put_exactly (take n held) e sen csn.value b (length before))) a p)
+calls_tell (notices {t} {n} {held} c e m k before {a} {after} p) =
+    subst (λ (o : Outcome Bytes). AnsweredBy (and_then o (λ s. notice_outcome s e m k (length before))) a after) (sym (calls_tell c))
+    (kept_tells (notice_outcome (take n held) e m k (length before)) (numbered (notice_exactly (take n held) e m k (length before))) a p)
+calls_tell (joins {t} {u} {n} {m} {held} {other} c d before {a} {after} p) =
+    subst (λ (o : Outcome Bytes). AnsweredBy (and_then o (λ x. and_then (ends paper u) (λ y. join_outcome x y (length before)))) a after) (sym (calls_tell c))
+    (subst (λ (o : Outcome Bytes). AnsweredBy (and_then o (λ y. join_outcome (take n held) y (length before))) a after) (sym (calls_tell d))
+    (kept_tells (join_outcome (take n held) (take m other) (length before)) (numbered (join_exactly (take n held) (take m other) (length before))) a p))
+calls_tell (begins b g) = ap done (sym (take_all (length b) b (omega arith)))
 
 -- ---- what a caller has in its buffers
 
 -- the length that a call answered is that of what it wrote
-calls-length : {t : Tree} {n : ℕ} {after : Bytes} → Called t (Wrote n) after → n ≡ length (take n after)
-calls-length (opens e r before p) = kept-length (open_outcome e.value r.value (length before)) (numbered (open-exactly e.value r.value (length before))) p
-calls-length (puts {n} {held} c e sen csn b before p) =
-    kept-length (put_outcome (take n held) e sen csn.value b (length before)) (numbered (put-exactly (take n held) e sen csn.value b (length before))) p
-calls-length (notices {n} {held} c e m k before p) =
-    kept-length (notice_outcome (take n held) e m k (length before)) (numbered (notice-exactly (take n held) e m k (length before))) p
-calls-length (joins {n} {m} {held} {other} c d before p) =
-    kept-length (join_outcome (take n held) (take m other) (length before)) (numbered (join-exactly (take n held) (take m other) (length before))) p
-calls-length (begins b g) = ap length (sym (take_all (length b) b (omega arith)))
+calls_length : {t : Tree} {n : ℕ} {after : Bytes} → Called t (Wrote n) after → n ≡ length (take n after)
+calls_length (opens e r before p) = kept_length (open_outcome e.value r.value (length before)) (numbered (open_exactly e.value r.value (length before))) p
+calls_length (puts {n} {held} c e sen csn b before p) =
+    kept_length (put_outcome (take n held) e sen csn.value b (length before)) (numbered (put_exactly (take n held) e sen csn.value b (length before))) p
+calls_length (notices {n} {held} c e m k before p) =
+    kept_length (notice_outcome (take n held) e m k (length before)) (numbered (notice_exactly (take n held) e m k (length before))) p
+calls_length (joins {n} {m} {held} {other} c d before p) =
+    kept_length (join_outcome (take n held) (take m other) (length before)) (numbered (join_exactly (take n held) (take m other) (length before))) p
+calls_length (begins b g) = ap length (sym (take_all (length b) b (omega arith)))
 
 -- A CALL THAT ANSWERED SUCCESS LEFT THE GATHERED SHEET'S BYTES, and answered their length
-pub calls-gather : {t : Tree} {n : ℕ} {after : Bytes} → Called t (Wrote n) after → (n ≡ length (sheet_bytes (gathered_in t))) × (take n after ≡ sheet_bytes (gathered_in t))
-calls-gather {t} {n} {after} c = let w = demand-3 t (take n after) (calls-tell c) in (calls-length c ∙ ap length w, w)
+pub calls_gather : {t : Tree} {n : ℕ} {after : Bytes} → Called t (Wrote n) after → (n ≡ length (sheet_bytes (gathered_in t))) × (take n after ≡ sheet_bytes (gathered_in t))
+calls_gather {t} {n} {after} c = let w = demand_3 t (take n after) (calls_tell c) in (calls_length c ∙ ap length w, w)
 
 -- WHERE EPOCH, ROSTER, OFFERS AND BUFFERS ARE FAIR, NO CALL IS REFUSED
-pub calls-never-refused : (e r : ℕ) → Head e r → (t : Tree) (a : Answer) (after : Bytes) → FairTree e r t → Called t a after → a ≡ Wrote (length (sheet_bytes (gathered_in t)))
-calls-never-refused e r h t (Wrote n) after f c = ap Wrote (calls-gather c).0
-calls-never-refused e r h t (Refused x) after f c = absurd (refused-not (sym (calls-tell c) ∙ never_stuck e r h t f))
+pub calls_never_refused : (e r : ℕ) → Head e r → (t : Tree) (a : Answer) (after : Bytes) → FairTree e r t → Called t a after → a ≡ Wrote (length (sheet_bytes (gathered_in t)))
+calls_never_refused e r h t (Wrote n) after f c = ap Wrote (calls_gather c).0
+calls_never_refused e r h t (Refused x) after f c = absurd (refused_not (sym (calls_tell c) ∙ never_stuck e r h t f))
 
 -- TWO DEPOTS' CALLS with one epoch, one roster and the same distinct offers left the same bytes
-pub depots-same : {t u : Tree} {n m : ℕ} {held other : Bytes} → Called t (Wrote n) held → Called u (Wrote m) other
+pub depots_same : {t u : Tree} {n m : ℕ} {held other : Bytes} → Called t (Wrote n) held → Called u (Wrote m) other
     → epoch_of t ≡ epoch_of u → roster_of t ≡ roster_of u → SameOffers t u → (n ≡ m) × (take n held ≡ take m other)
-depots-same {t} {u} {n} {m} {held} {other} p q e f h =
-    let w = same_ended t u (take n held) (take m other) (calls-tell p) (calls-tell q) e f h in
-    (calls-length p ∙ ap length w ∙ sym (calls-length q), w)
+depots_same {t} {u} {n} {m} {held} {other} p q e f h =
+    let w = same_ended t u (take n held) (take m other) (calls_tell p) (calls_tell q) e f h in
+    (calls_length p ∙ ap length w ∙ sym (calls_length q), w)
 
 -- ---- a set that came through the desk
 
 -- an offer of the open set is a call of put with its records: the calls of a tree may come through the desk
-pub offer-is-put : {t : Tree} {n : ℕ} {held : Bytes} → Called t (Wrote n) held → (o : OpenSet) (e sen : ℕ) (csn : Number 8) (before : Bytes) {a : Answer} {o' : OpenSet} {after : Bytes}
+pub offer_is_put : {t : Tree} {n : ℕ} {held : Bytes} → Called t (Wrote n) held → (o : OpenSet) (e sen : ℕ) (csn : Number 8) (before : Bytes) {a : Answer} {o' : OpenSet} {after : Bytes}
     → OfferPromise (offer_outcome o (take n held) e sen csn.value (length before)) o before a o' after → Called (put t e sen csn (offered_bytes o) (length before)) a after
 unfolding offer_outcome
-offer-is-put c o e sen csn before p = puts c e sen csn (offered_bytes o) before p.sheet
+offer_is_put c o e sen csn before p = puts c e sen csn (offered_bytes o) before p.sheet
 
 -- AN OFFER OF THE OPEN SET THAT ANSWERED SUCCESS left the gathered sheet with that set put, and the open set empty
-pub offer-gathers : {t : Tree} {n m : ℕ} {held : Bytes} → Called t (Wrote n) held → (o : OpenSet) (rs : List Record) → read_open o ≡ some rs → (e sen : ℕ) (csn : Number 8) (before : Bytes)
+pub offer_gathers : {t : Tree} {n m : ℕ} {held : Bytes} → Called t (Wrote n) held → (o : OpenSet) (rs : List Record) → read_open o ≡ some rs → (e sen : ℕ) (csn : Number 8) (before : Bytes)
     {o' : OpenSet} {after : Bytes} → OfferPromise (offer_outcome o (take n held) e sen csn.value (length before)) o before (Wrote m) o' after
     → (take m after ≡ sheet_bytes (gathered_in (put t e sen csn (records_bytes rs) (length before)))) × (o' ≡ empty_set)
-offer-gathers {t} {n} {m} {held} c o rs r e sen csn before {o'} {after} p =
-    let w = (calls-gather (offer-is-put c o e sen csn before p)).1 in (
-      w ∙ ap (λ (b : Bytes). sheet_bytes (gathered_in (put t e sen csn b (length before)))) (offers-own o rs r),
-      kept-offered (offer_outcome o (take n held) e sen csn.value (length before)) (numbered (offer-exactly o (take n held) e sen csn.value (length before))) p,
+offer_gathers {t} {n} {m} {held} c o rs r e sen csn before {o'} {after} p =
+    let w = (calls_gather (offer_is_put c o e sen csn before p)).1 in (
+      w ∙ ap (λ (b : Bytes). sheet_bytes (gathered_in (put t e sen csn b (length before)))) (offers_own o rs r),
+      kept_offered (offer_outcome o (take n held) e sen csn.value (length before)) (numbered (offer_exactly o (take n held) e sen csn.value (length before))) p,
     )
 
 -- ---- a call of close
 
 -- a call of close on a register and a sheet: what it answered, and what it left in the buffers that it was lent
 pub record CloseCall (register sheet : Bytes) (a : Closed) (next verdicts : Bytes) : Type 0 where
-  pub lent-next : Bytes
-  pub lent-verdicts : Bytes
-  pub kept : ClosePromise (close_outcome register sheet (length lent-next) (length lent-verdicts)) lent-next lent-verdicts a next verdicts
+  pub lent_next : Bytes
+  pub lent_verdicts : Bytes
+  pub kept : ClosePromise (close_outcome register sheet (length lent_next) (length lent_verdicts)) lent_next lent_verdicts a next verdicts
 
 -- its buffers were long enough
 abbrev pub Roomy : {register sheet : Bytes} {a : Closed} {next verdicts : Bytes} → CloseCall register sheet a next verdicts → Type 0
-Roomy c = LongEnough (length c.lent-next) (length c.lent-verdicts)
+Roomy c = LongEnough (length c.lent_next) (length c.lent_verdicts)
 
 -- what is written of the next register
 abbrev pub written_next : Closed → Bytes → Bytes
@@ -141,73 +141,73 @@ written_verdicts (closed.Wrote i j) verdicts = take j verdicts
 written_verdicts (closed.Refused x) verdicts = []
 
 -- WHERE IT ANSWERED SUCCESS, closing of what its bytes read as gives what stands in the buffers, in the lengths that it answered
-pub close-writes : {r t next verdicts : Bytes} {i j : ℕ} → CloseCall r t (closed.Wrote i j) next verdicts
+pub close_writes : {r t next verdicts : Bytes} {i j : ℕ} → CloseCall r t (closed.Wrote i j) next verdicts
     → (i ≡ length (take i next)) × (j ≡ length (take j verdicts))
     × ((g : Register) × (s : Sheet) × Gives r t g s (record { register = take i next; verdicts = take j verdicts }))
-close-writes {r} {t} {next} {verdicts} {i} {j} c =
-    let n = length c.lent-next in
-    let m = length c.lent-verdicts in
-    let h = numbered (close-exactly r t n m) in
-    let l = kept-lengths (close_outcome r t n m) h c.kept in
-    let e = kept-done-closing (close_outcome r t n m) h c.kept in
-    let w = closing-writes r t n m (record { register = take i next; verdicts = take j verdicts }) e in
-    (l.0, l.1, (w.0, w.1, record { reads-register = w.2; reads-sheet = w.3; next-room = n; room = m; is-done = e }))
+close_writes {r} {t} {next} {verdicts} {i} {j} c =
+    let n = length c.lent_next in
+    let m = length c.lent_verdicts in
+    let h = numbered (close_exactly r t n m) in
+    let l = kept_lengths (close_outcome r t n m) h c.kept in
+    let e = kept_done_closing (close_outcome r t n m) h c.kept in
+    let w = closing_writes r t n m (record { register = take i next; verdicts = take j verdicts }) e in
+    (l.0, l.1, (w.0, w.1, record { reads_register = w.2; reads_sheet = w.3; next_room_lem = n; room = m; is_done = e }))
 
 -- WHERE IT ANSWERED A REFUSAL, that is the foremost that applies, and both buffers are as they were
-pub close-refuses : {r t next verdicts : Bytes} {x : Refusal} (c : CloseCall r t (closed.Refused x) next verdicts)
-    → Foremost (to_close r t (length c.lent-next) (length c.lent-verdicts)) x × (next ≡ c.lent-next) × (verdicts ≡ c.lent-verdicts)
-close-refuses {r} {t} c =
-    let n = length c.lent-next in
-    let m = length c.lent-verdicts in
-    let k = kept-refused-closing (close_outcome r t n m) c.kept in
-    (refused-foremost (close-exactly r t n m) k.0, k.1, k.2)
+pub close_refuses : {r t next verdicts : Bytes} {x : Refusal} (c : CloseCall r t (closed.Refused x) next verdicts)
+    → Foremost (to_close r t (length c.lent_next) (length c.lent_verdicts)) x × (next ≡ c.lent_next) × (verdicts ≡ c.lent_verdicts)
+close_refuses {r} {t} c =
+    let n = length c.lent_next in
+    let m = length c.lent_verdicts in
+    let k = kept_refused_closing (close_outcome r t n m) c.kept in
+    (refused_foremost (close_exactly r t n m) k.0, k.1, k.2)
 
 -- what a call of close is known to have done, by its outcome
-written-by : {r t next verdicts : Bytes} {a : Closed} (c : CloseCall r t a next verdicts) (k : Closing)
-    → close_outcome r t (length c.lent-next) (length c.lent-verdicts) ≡ done k
+written_by : {r t next verdicts : Bytes} {a : Closed} (c : CloseCall r t a next verdicts) (k : Closing)
+    → close_outcome r t (length c.lent_next) (length c.lent_verdicts) ≡ done k
     → (a ≡ closed.Wrote (length k.register) (length k.verdicts)) × (written_next a next ≡ k.register) × (written_verdicts a verdicts ≡ k.verdicts)
-written-by {r} {t} {next} {verdicts} c k e =
-    let w = kept-wrote-closing (close_outcome r t (length c.lent-next) (length c.lent-verdicts)) e c.kept in (
+written_by {r} {t} {next} {verdicts} c k e =
+    let w = kept_wrote_closing (close_outcome r t (length c.lent_next) (length c.lent_verdicts)) e c.kept in (
       w.0,
-      ap (λ (z : Closed). written_next z next) w.0 ∙ sym (written c.lent-next k.register _ refl w.1),
-      ap (λ (z : Closed). written_verdicts z verdicts) w.0 ∙ sym (written c.lent-verdicts k.verdicts _ refl w.2),
+      ap (λ (z : Closed). written_next z next) w.0 ∙ sym (written c.lent_next k.register _ refl w.1),
+      ap (λ (z : Closed). written_verdicts z verdicts) w.0 ∙ sym (written c.lent_verdicts k.verdicts _ refl w.2),
     )
 
 -- and where it is refused
-refused-by : {r t next verdicts : Bytes} {a : Closed} (c : CloseCall r t a next verdicts) (x : Refusal)
-    → close_outcome r t (length c.lent-next) (length c.lent-verdicts) ≡ refused (refusal_number x)
+refused_by : {r t next verdicts : Bytes} {a : Closed} (c : CloseCall r t a next verdicts) (x : Refusal)
+    → close_outcome r t (length c.lent_next) (length c.lent_verdicts) ≡ refused (refusal_number x)
     → (a ≡ closed.Refused x) × (written_next a next ≡ []) × (written_verdicts a verdicts ≡ [])
-refused-by {r} {t} {next} {verdicts} c x e =
-    let w = (kept-refuses-closing (close_outcome r t (length c.lent-next) (length c.lent-verdicts)) e c.kept).0 in
+refused_by {r} {t} {next} {verdicts} c x e =
+    let w = (kept_refuses_closing (close_outcome r t (length c.lent_next) (length c.lent_verdicts)) e c.kept).0 in
     (w, ap (λ (z : Closed). written_next z next) w, ap (λ (z : Closed). written_verdicts z verdicts) w)
 
 -- calls of close with one outcome are answered alike, and write the same
 alike : {r t u next verdicts next' verdicts' : Bytes} {a b : Closed} (c : CloseCall r t a next verdicts) (d : CloseCall r u b next' verdicts')
-    → close_outcome r t (length c.lent-next) (length c.lent-verdicts) ≡ close_outcome r u (length d.lent-next) (length d.lent-verdicts)
+    → close_outcome r t (length c.lent_next) (length c.lent_verdicts) ≡ close_outcome r u (length d.lent_next) (length d.lent_verdicts)
     → (a ≡ b) × (written_next a next ≡ written_next b next') × (written_verdicts a verdicts ≡ written_verdicts b verdicts')
 alike {r} {t} {u} {next} {verdicts} {next'} {verdicts'} {a} {b} c d e =
-    go (close_outcome r u (length d.lent-next) (length d.lent-verdicts)) e refl
+    go (close_outcome r u (length d.lent_next) (length d.lent_verdicts)) e refl
   where
-    go : (o : Outcome Closing) → close_outcome r t (length c.lent-next) (length c.lent-verdicts) ≡ o
-        → close_outcome r u (length d.lent-next) (length d.lent-verdicts) ≡ o
+    go : (o : Outcome Closing) → close_outcome r t (length c.lent_next) (length c.lent_verdicts) ≡ o
+        → close_outcome r u (length d.lent_next) (length d.lent_verdicts) ≡ o
         → (a ≡ b) × (written_next a next ≡ written_next b next') × (written_verdicts a verdicts ≡ written_verdicts b verdicts')
     go (done k) p q =
-        let v = written-by c k p in
-        let w = written-by d k q in
+        let v = written_by c k p in
+        let w = written_by d k q in
         (v.0 ∙ sym w.0, v.1 ∙ sym w.1, v.2 ∙ sym w.2)
     go (refused i) p q =
-        let x = (close-exactly r t (length c.lent-next) (length c.lent-verdicts)).only-when i p in
-        let v = refused-by c x.0 (p ∙ ap refused x.1) in
-        let w = refused-by d x.0 (q ∙ ap refused x.1) in
+        let x = (close_exactly r t (length c.lent_next) (length c.lent_verdicts)).only_when i p in
+        let v = refused_by c x.0 (p ∙ ap refused x.1) in
+        let w = refused_by d x.0 (q ∙ ap refused x.1) in
         (v.0 ∙ sym w.0, v.1 ∙ sym w.1, v.2 ∙ sym w.2)
 
 -- TWO DEPOTS' CALLS OF CLOSE on one register, after such calls and in buffers of any lengths that are long enough: they are answered alike,
 -- with the same register and verdicts or the same refusal
-pub depots-alike : {t u : Tree} {n m : ℕ} {held other : Bytes} → Called t (Wrote n) held → Called u (Wrote m) other
+pub depots_alike : {t u : Tree} {n m : ℕ} {held other : Bytes} → Called t (Wrote n) held → Called u (Wrote m) other
     → epoch_of t ≡ epoch_of u → roster_of t ≡ roster_of u → SameOffers t u
     → {r next verdicts next' verdicts' : Bytes} {a b : Closed} (c : CloseCall r (take n held) a next verdicts) (d : CloseCall r (take m other) b next' verdicts')
     → Roomy c → Roomy d → (a ≡ b) × (written_next a next ≡ written_next b next') × (written_verdicts a verdicts ≡ written_verdicts b verdicts')
-depots-alike {t} {u} {n} {m} {held} {other} p q e f h {r} c d x y =
+depots_alike {t} {u} {n} {m} {held} {other} p q e f h {r} c d x y =
     alike c d
-    (same-ended-closing t u (take n held) (take m other) (calls-tell p) (calls-tell q) e f h
-    r (length c.lent-next) (length c.lent-verdicts) (length d.lent-next) (length d.lent-verdicts) x y)
+    (same_ended_closing t u (take n held) (take m other) (calls_tell p) (calls_tell q) e f h
+    r (length c.lent_next) (length c.lent_verdicts) (length d.lent_next) (length d.lent_verdicts) x y)

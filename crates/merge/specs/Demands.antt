@@ -99,7 +99,7 @@ pub record FirstDemand : Type 0 where
   pub checks : (register : Bytes) (mode lsn : ℕ) (keys csns : List ℕ)
       → RefusedExactly (to_check register mode lsn (reads_of keys csns)) (check_outcome register mode lsn keys csns)
       (check_from (register_in register) mode lsn 0 (entries_of (reads_of keys csns)))
-  pub checks-reads : (register : Bytes) (mode lsn : ℕ) (entries : List Read)
+  pub checks_reads : (register : Bytes) (mode lsn : ℕ) (entries : List Read)
       → RefusedExactly (to_check register mode lsn (some entries)) (reads_outcome register mode lsn entries) (check_from (register_in register) mode lsn 0 entries)
   pub enters : (o : OpenSet) (kind : ℕ) (tag : Bytes) (value : ℕ)
       → RefusedExactly (to_enter o kind tag value) (enter_outcome o kind tag value) (open_set_of (put_record (record_of kind (key_in tag) value) (open_records o)))
@@ -108,205 +108,205 @@ pub record FirstDemand : Type 0 where
       (sheet_bytes (with_offer (sheet_in sheet) (a_set (set_by csn sen (open_records o)))))
   pub tags : (key room : ℕ) → RefusedExactly (to_tag key room) (tag_outcome key room) (tag_of key)
   -- They are given in the documents' order, in which of document 01's the smaller comes before the larger.
-  pub smaller-first : (x y : Refusal) → refusal_number x ≤ 10 → refusal_number y ≤ 10 → refusal_number x < refusal_number y → turn_of x < turn_of y
+  pub smaller_first : (x y : Refusal) → refusal_number x ≤ 10 → refusal_number y ≤ 10 → refusal_number x < refusal_number y → turn_of x < turn_of y
   -- What the read check answers is the first failing entry, or that none fails.
-  pub first-failing : (g : Register) (mode lsn : ℕ) (entries : List Read) → reading.Tells g mode lsn 0 entries (check_from g mode lsn 0 entries)
+  pub first_failing : (g : Register) (mode lsn : ℕ) (entries : List Read) → reading.Tells g mode lsn 0 entries (check_from g mode lsn 0 entries)
   -- It examines forms itself: what is no register is refused with 1, what is no sheet with 2, an ill-formed offer with 3, each before what has a larger number.
-  pub close-examines-register : (register sheet : Bytes) (next_room room : ℕ) → read_register register ≡ none → close_outcome register sheet next_room room ≡ refused 1
-  pub check-examines-register : (register : Bytes) (mode lsn : ℕ) (keys csns : List ℕ) → read_register register ≡ none → check_outcome register mode lsn keys csns ≡ refused 1
-  pub reads-examines-register : (register : Bytes) (mode lsn : ℕ) (entries : List Read) → read_register register ≡ none → reads_outcome register mode lsn entries ≡ refused 1
-  pub close-examines-sheet : (register sheet : Bytes) (next_room room : ℕ) (g : Register) → read_register register ≡ some g → read_sheet sheet ≡ none
+  pub close_examines_register : (register sheet : Bytes) (next_room room : ℕ) → read_register register ≡ none → close_outcome register sheet next_room room ≡ refused 1
+  pub check_examines_register : (register : Bytes) (mode lsn : ℕ) (keys csns : List ℕ) → read_register register ≡ none → check_outcome register mode lsn keys csns ≡ refused 1
+  pub reads_examines_register : (register : Bytes) (mode lsn : ℕ) (entries : List Read) → read_register register ≡ none → reads_outcome register mode lsn entries ≡ refused 1
+  pub close_examines_sheet : (register sheet : Bytes) (next_room room : ℕ) (g : Register) → read_register register ≡ some g → read_sheet sheet ≡ none
       → close_outcome register sheet next_room room ≡ refused 2
-  pub put-examines-sheet : (sheet : Bytes) (epoch sen csn : ℕ) (records : Bytes) (room : ℕ) → read_sheet sheet ≡ none → put_outcome sheet epoch sen csn records room ≡ refused 2
-  pub notice-examines-sheet : (sheet : Bytes) (epoch master number room : ℕ) → read_sheet sheet ≡ none → notice_outcome sheet epoch master number room ≡ refused 2
-  pub join-examines-first : (a b : Bytes) (room : ℕ) → read_sheet a ≡ none → join_outcome a b room ≡ refused 2
-  pub join-examines-second : (a b : Bytes) (room : ℕ) (s : Sheet) → read_sheet a ≡ some s → read_sheet b ≡ none → join_outcome a b room ≡ refused 2
-  pub put-examines-set : (sheet : Bytes) (epoch sen csn : ℕ) (records : Bytes) (room : ℕ) (s : Sheet) → read_sheet sheet ≡ some s → offered_set epoch sen csn records ≡ none
+  pub put_examines_sheet : (sheet : Bytes) (epoch sen csn : ℕ) (records : Bytes) (room : ℕ) → read_sheet sheet ≡ none → put_outcome sheet epoch sen csn records room ≡ refused 2
+  pub notice_examines_sheet : (sheet : Bytes) (epoch master number room : ℕ) → read_sheet sheet ≡ none → notice_outcome sheet epoch master number room ≡ refused 2
+  pub join_examines_first : (a b : Bytes) (room : ℕ) → read_sheet a ≡ none → join_outcome a b room ≡ refused 2
+  pub join_examines_second : (a b : Bytes) (room : ℕ) (s : Sheet) → read_sheet a ≡ some s → read_sheet b ≡ none → join_outcome a b room ≡ refused 2
+  pub put_examines_set : (sheet : Bytes) (epoch sen csn : ℕ) (records : Bytes) (room : ℕ) (s : Sheet) → read_sheet sheet ≡ some s → offered_set epoch sen csn records ≡ none
       → put_outcome sheet epoch sen csn records room ≡ refused 3
-  pub notice-examines-notice : (sheet : Bytes) (epoch master number room : ℕ) (s : Sheet) → read_sheet sheet ≡ some s → offered_notice epoch master number ≡ none
+  pub notice_examines_notice : (sheet : Bytes) (epoch master number room : ℕ) (s : Sheet) → read_sheet sheet ≡ some s → offered_notice epoch master number ≡ none
       → notice_outcome sheet epoch master number room ≡ refused 3
-  pub enter-examines-set : (o : OpenSet) (kind : ℕ) (tag : Bytes) (value : ℕ) → is_open_set o ≡ false → enter_outcome o kind tag value ≡ refused 3
-  pub offer-examines-sheet : (o : OpenSet) (sheet : Bytes) (epoch sen csn room : ℕ) → read_sheet sheet ≡ none → offer_outcome o sheet epoch sen csn room ≡ refused 2
-  pub offer-examines-set : (o : OpenSet) (sheet : Bytes) (epoch sen csn room : ℕ) (s : Sheet) → read_sheet sheet ≡ some s → is_open_set o ≡ false
+  pub enter_examines_set : (o : OpenSet) (kind : ℕ) (tag : Bytes) (value : ℕ) → is_open_set o ≡ false → enter_outcome o kind tag value ≡ refused 3
+  pub offer_examines_sheet : (o : OpenSet) (sheet : Bytes) (epoch sen csn room : ℕ) → read_sheet sheet ≡ none → offer_outcome o sheet epoch sen csn room ≡ refused 2
+  pub offer_examines_set : (o : OpenSet) (sheet : Bytes) (epoch sen csn room : ℕ) (s : Sheet) → read_sheet sheet ≡ some s → is_open_set o ≡ false
       → offer_outcome o sheet epoch sen csn room ≡ refused 3
   -- It refuses by a fixed number: a promise kept tells the outcome. Success means that the named length was written, and the bytes after it stayed;
-  pub success-tells : (q : Asked) (o : Outcome Bytes) (result before after : Bytes) (n : ℕ) → RefusedExactly q o result → Promise o before (Wrote n) after
+  pub success_tells : (q : Asked) (o : Outcome Bytes) (result before after : Bytes) (n : ℕ) → RefusedExactly q o result → Promise o before (Wrote n) after
       → (o ≡ done (take n after)) × (n ≡ length (take n after)) × (drop n after ≡ drop n before)
-  pub closing-success-tells : (q : Asked) (o : Outcome Closing) (result : Closing) (next verdicts next' verdicts' : Bytes) (i j : ℕ) → RefusedExactly q o result
+  pub closing_success_tells : (q : Asked) (o : Outcome Closing) (result : Closing) (next verdicts next' verdicts' : Bytes) (i j : ℕ) → RefusedExactly q o result
       → ClosePromise o next verdicts (closed.Wrote i j) next' verdicts'
       → (o ≡ done (record { register = take i next'; verdicts = take j verdicts' }))
       × (i ≡ length (take i next')) × (drop i next' ≡ drop i next) × (j ≡ length (take j verdicts')) × (drop j verdicts' ≡ drop j verdicts)
-  pub pass-tells : (q : Asked) (o : Outcome Finding) (result : Finding) → RefusedExactly q o result → CheckPromise o checked.Pass → o ≡ done passes
-  pub failure-tells : (o : Outcome Finding) (i k : ℕ) (reason : Reason) → CheckPromise o (checked.Fails i k reason) → o ≡ done (fails i k reason)
-  pub added-tells : (q : Asked) (o : Outcome OpenSet) (result before after : OpenSet) → RefusedExactly q o result → EnterPromise o before entered.Added after → o ≡ done after
-  pub offered-tells : (q : Asked) (o : Outcome Bytes) (result : Bytes) (before after : OpenSet) (out out' : Bytes) (n : ℕ) → RefusedExactly q o result
+  pub pass_tells : (q : Asked) (o : Outcome Finding) (result : Finding) → RefusedExactly q o result → CheckPromise o checked.Pass → o ≡ done passes
+  pub failure_tells : (o : Outcome Finding) (i k : ℕ) (reason : Reason) → CheckPromise o (checked.Fails i k reason) → o ≡ done (fails i k reason)
+  pub added_tells : (q : Asked) (o : Outcome OpenSet) (result before after : OpenSet) → RefusedExactly q o result → EnterPromise o before entered.Added after → o ≡ done after
+  pub offered_tells : (q : Asked) (o : Outcome Bytes) (result : Bytes) (before after : OpenSet) (out out' : Bytes) (n : ℕ) → RefusedExactly q o result
       → OfferPromise o before out (Wrote n) after out' → (o ≡ done (take n out')) × (n ≡ length (take n out')) × (drop n out' ≡ drop n out) × (after ≡ empty_set)
   -- a refusal, that it is the foremost that applies.
-  pub refusal-tells : (q : Asked) (o : Outcome Bytes) (result before after : Bytes) (x : Refusal) → RefusedExactly q o result → Promise o before (Refused x) after
+  pub refusal_tells : (q : Asked) (o : Outcome Bytes) (result before after : Bytes) (x : Refusal) → RefusedExactly q o result → Promise o before (Refused x) after
       → (o ≡ refused (refusal_number x)) × Foremost q x
-  pub closing-refusal-tells : (q : Asked) (o : Outcome Closing) (result : Closing) (next verdicts next' verdicts' : Bytes) (x : Refusal) → RefusedExactly q o result
+  pub closing_refusal_tells : (q : Asked) (o : Outcome Closing) (result : Closing) (next verdicts next' verdicts' : Bytes) (x : Refusal) → RefusedExactly q o result
       → ClosePromise o next verdicts (closed.Refused x) next' verdicts' → (o ≡ refused (refusal_number x)) × Foremost q x
-  pub check-refusal-tells : (q : Asked) (o : Outcome Finding) (result : Finding) (x : Refusal) → RefusedExactly q o result → CheckPromise o (checked.Refused x)
+  pub check_refusal_tells : (q : Asked) (o : Outcome Finding) (result : Finding) (x : Refusal) → RefusedExactly q o result → CheckPromise o (checked.Refused x)
       → (o ≡ refused (refusal_number x)) × Foremost q x
-  pub entering-refusal-tells : (q : Asked) (o : Outcome OpenSet) (result before after : OpenSet) (x : Refusal) → RefusedExactly q o result
+  pub entering_refusal_tells : (q : Asked) (o : Outcome OpenSet) (result before after : OpenSet) (x : Refusal) → RefusedExactly q o result
       → EnterPromise o before (entered.Refused x) after → (o ≡ refused (refusal_number x)) × Foremost q x
-  pub offering-refusal-tells : (q : Asked) (o : Outcome Bytes) (result : Bytes) (before after : OpenSet) (out out' : Bytes) (x : Refusal) → RefusedExactly q o result
+  pub offering_refusal_tells : (q : Asked) (o : Outcome Bytes) (result : Bytes) (before after : OpenSet) (out out' : Bytes) (x : Refusal) → RefusedExactly q o result
       → OfferPromise o before out (Refused x) after out' → (o ≡ refused (refusal_number x)) × Foremost q x
   -- And it settles the answer and every lent byte.
   pub settled : (o : Outcome Bytes) (before after after' : Bytes) (a b : Answer) → Promise o before a after → Promise o before b after' → (a ≡ b) × (after ≡ after')
-  pub settled-closing : (o : Outcome Closing) (next verdicts n n' v v' : Bytes) (a b : Closed)
+  pub settled_closing : (o : Outcome Closing) (next verdicts n n' v v' : Bytes) (a b : Closed)
       → ClosePromise o next verdicts a n v → ClosePromise o next verdicts b n' v' → (a ≡ b) × (n ≡ n') × (v ≡ v')
-  pub settled-check : (o : Outcome Finding) (a b : Checked) → CheckPromise o a → CheckPromise o b → a ≡ b
-  pub settled-entering : (o : Outcome OpenSet) (before after after' : OpenSet) (a b : Entered) → EnterPromise o before a after → EnterPromise o before b after' → (a ≡ b) × (after ≡ after')
-  pub settled-offering : (o : Outcome Bytes) (before after after' : OpenSet) (out out₁ out₂ : Bytes) (a b : Answer)
+  pub settled_check : (o : Outcome Finding) (a b : Checked) → CheckPromise o a → CheckPromise o b → a ≡ b
+  pub settled_entering : (o : Outcome OpenSet) (before after after' : OpenSet) (a b : Entered) → EnterPromise o before a after → EnterPromise o before b after' → (a ≡ b) × (after ≡ after')
+  pub settled_offering : (o : Outcome Bytes) (before after after' : OpenSet) (out out₁ out₂ : Bytes) (a b : Answer)
       → OfferPromise o before out a after out₁ → OfferPromise o before out b after' out₂ → (a ≡ b) × (after ≡ after') × (out₁ ≡ out₂)
   -- A refusal writes nothing.
-  pub refusal-writes-nothing : (o : Outcome Bytes) (before after : Bytes) (x : Refusal) → Promise o before (Refused x) after → after ≡ before
-  pub refused-closing-writes-nothing : (o : Outcome Closing) (next verdicts next' verdicts' : Bytes) (x : Refusal)
+  pub refusal_writes_nothing : (o : Outcome Bytes) (before after : Bytes) (x : Refusal) → Promise o before (Refused x) after → after ≡ before
+  pub refused_closing_writes_nothing : (o : Outcome Closing) (next verdicts next' verdicts' : Bytes) (x : Refusal)
       → ClosePromise o next verdicts (closed.Refused x) next' verdicts' → (next' ≡ next) × (verdicts' ≡ verdicts)
-  pub refused-entering-leaves : (o : Outcome OpenSet) (before after : OpenSet) (x : Refusal) → EnterPromise o before (entered.Refused x) after → after ≡ before
-  pub refused-offering-leaves : (o : Outcome Bytes) (before after : OpenSet) (out out' : Bytes) (x : Refusal) → OfferPromise o before out (Refused x) after out'
+  pub refused_entering_leaves : (o : Outcome OpenSet) (before after : OpenSet) (x : Refusal) → EnterPromise o before (entered.Refused x) after → after ≡ before
+  pub refused_offering_leaves : (o : Outcome Bytes) (before after : OpenSet) (out out' : Bytes) (x : Refusal) → OfferPromise o before out (Refused x) after out'
       → (after ≡ before) × (out' ≡ out)
 
-pub demand-1 : FirstDemand
+pub demand_1 : FirstDemand
 unfolding close_outcome close_sheet check_outcome reads_outcome check_reads put_outcome notice_outcome offer_to join_outcome join_sheets offer_outcome
-demand-1 = record {
-  opens = exactly.open-exactly;
-  puts = exactly.put-exactly;
-  notices = exactly.notice-exactly;
-  joins = exactly.join-exactly;
-  closes = exactly.close-exactly;
-  checks = exactly.check-exactly;
-  checks-reads = exactly.reads-exactly;
-  enters = exactly.enter-exactly;
-  offers = exactly.offer-exactly;
-  tags = exactly.tag-exactly;
-  smaller-first = exactly.smaller-first;
-  first-failing = λ g mode lsn es. reading.check-tells g mode lsn 0 es;
-  close-examines-register = λ r t n m e. ap (λ (g : Option Register). close_sheet g (read_sheet t) n m) e;
-  check-examines-register = λ r mode lsn ks cs e. ap (λ (g : Option Register). check_reads g mode lsn (reads_of ks cs)) e;
-  reads-examines-register = λ r mode lsn es e. ap (λ (g : Option Register). check_reads g mode lsn (some es)) e;
-  close-examines-sheet = λ r t n m g e f. ap₂ (λ (a : Option Register) (b : Option Sheet). close_sheet a b n m) e f;
-  put-examines-sheet = λ s e sen csn b room h. ap (λ (a : Option Sheet). offer_to a (offered_set e sen csn b) e (master_of csn) room) h;
-  notice-examines-sheet = λ s e m n room h. ap (λ (a : Option Sheet). offer_to a (offered_notice e m n) e m room) h;
-  join-examines-first = λ a b room e. ap (λ (x : Option Sheet). join_sheets x (read_sheet b) room) e;
-  join-examines-second = λ a b room s e f. ap₂ (λ (x y : Option Sheet). join_sheets x y room) e f;
-  put-examines-set = λ b e sen csn rs room s h k. ap₂ (λ (a : Option Sheet) (o : Option Offer). offer_to a o e (master_of csn) room) h k;
-  notice-examines-notice = λ b e m n room s h k. ap₂ (λ (a : Option Sheet) (o : Option Offer). offer_to a o e m room) h k;
-  enter-examines-set = entering.no-open-set;
-  offer-examines-sheet = λ o s e sen csn room h. ap (λ (a : Option Sheet). offer_to a (offered_set e sen csn (offered_bytes o)) e (master_of csn) room) h;
-  offer-examines-set = examined.offer-examines;
-  success-tells = λ q o result before after n e p. (kept.kept-done o (kept.numbered e) p, kept.kept-length o (kept.numbered e) p, kept.kept-after o p);
-  closing-success-tells = λ q o result next verdicts next' verdicts' i j e p.
-      let l = kept.kept-lengths o (kept.numbered e) p in
-      let a = kept.kept-after-closing o p in
-      (kept.kept-done-closing o (kept.numbered e) p, l.0, a.0, l.1, a.1);
-  pass-tells = λ q o result e p. kept.kept-pass o (kept.numbered e) p;
-  failure-tells = λ o i k reason p. kept.kept-fails o p;
-  added-tells = λ q o result before after e p. kept.kept-added o (kept.numbered e) p;
-  offered-tells = λ q o result before after out out' n e p.
+demand_1 = record {
+  opens = exactly.open_exactly;
+  puts = exactly.put_exactly;
+  notices = exactly.notice_exactly;
+  joins = exactly.join_exactly;
+  closes = exactly.close_exactly;
+  checks = exactly.check_exactly;
+  checks_reads = exactly.reads_exactly;
+  enters = exactly.enter_exactly;
+  offers = exactly.offer_exactly;
+  tags = exactly.tag_exactly;
+  smaller_first = exactly.smaller_first;
+  first_failing = λ g mode lsn es. reading.check_tells g mode lsn 0 es;
+  close_examines_register = λ r t n m e. ap (λ (g : Option Register). close_sheet g (read_sheet t) n m) e;
+  check_examines_register = λ r mode lsn ks cs e. ap (λ (g : Option Register). check_reads g mode lsn (reads_of ks cs)) e;
+  reads_examines_register = λ r mode lsn es e. ap (λ (g : Option Register). check_reads g mode lsn (some es)) e;
+  close_examines_sheet = λ r t n m g e f. ap₂ (λ (a : Option Register) (b : Option Sheet). close_sheet a b n m) e f;
+  put_examines_sheet = λ s e sen csn b room h. ap (λ (a : Option Sheet). offer_to a (offered_set e sen csn b) e (master_of csn) room) h;
+  notice_examines_sheet = λ s e m n room h. ap (λ (a : Option Sheet). offer_to a (offered_notice e m n) e m room) h;
+  join_examines_first = λ a b room e. ap (λ (x : Option Sheet). join_sheets x (read_sheet b) room) e;
+  join_examines_second = λ a b room s e f. ap₂ (λ (x y : Option Sheet). join_sheets x y room) e f;
+  put_examines_set = λ b e sen csn rs room s h k. ap₂ (λ (a : Option Sheet) (o : Option Offer). offer_to a o e (master_of csn) room) h k;
+  notice_examines_notice = λ b e m n room s h k. ap₂ (λ (a : Option Sheet) (o : Option Offer). offer_to a o e m room) h k;
+  enter_examines_set = entering.no_open_set;
+  offer_examines_sheet = λ o s e sen csn room h. ap (λ (a : Option Sheet). offer_to a (offered_set e sen csn (offered_bytes o)) e (master_of csn) room) h;
+  offer_examines_set = examined.offer_examines;
+  success_tells = λ q o result before after n e p. (kept.kept_done o (kept.numbered e) p, kept.kept_length o (kept.numbered e) p, kept.kept_after o p);
+  closing_success_tells = λ q o result next verdicts next' verdicts' i j e p.
+      let l = kept.kept_lengths o (kept.numbered e) p in
+      let a = kept.kept_after_closing o p in
+      (kept.kept_done_closing o (kept.numbered e) p, l.0, a.0, l.1, a.1);
+  pass_tells = λ q o result e p. kept.kept_pass o (kept.numbered e) p;
+  failure_tells = λ o i k reason p. kept.kept_fails o p;
+  added_tells = λ q o result before after e p. kept.kept_added o (kept.numbered e) p;
+  offered_tells = λ q o result before after out out' n e p.
       let s = p.sheet in
-      (kept.kept-done o (kept.numbered e) s, kept.kept-length o (kept.numbered e) s, kept.kept-after o s, kept.kept-offered o (kept.numbered e) p);
-  refusal-tells = λ q o result before after x e p. let k = (kept.kept-refused o p).0 in (k, kept.refused-foremost e k);
-  closing-refusal-tells = λ q o result next verdicts next' verdicts' x e p. let k = (kept.kept-refused-closing o p).0 in (k, kept.refused-foremost e k);
-  check-refusal-tells = λ q o result x e p. let k = kept.kept-refused-check o p in (k, kept.refused-foremost e k);
-  entering-refusal-tells = λ q o result before after x e p. let k = (kept.kept-refused-entering o p).0 in (k, kept.refused-foremost e k);
-  offering-refusal-tells = λ q o result before after out out' x e p. let k = (kept.kept-refused-offering o p).0 in (k, kept.refused-foremost e k);
+      (kept.kept_done o (kept.numbered e) s, kept.kept_length o (kept.numbered e) s, kept.kept_after o s, kept.kept_offered o (kept.numbered e) p);
+  refusal_tells = λ q o result before after x e p. let k = (kept.kept_refused o p).0 in (k, kept.refused_foremost e k);
+  closing_refusal_tells = λ q o result next verdicts next' verdicts' x e p. let k = (kept.kept_refused_closing o p).0 in (k, kept.refused_foremost e k);
+  check_refusal_tells = λ q o result x e p. let k = kept.kept_refused_check o p in (k, kept.refused_foremost e k);
+  entering_refusal_tells = λ q o result before after x e p. let k = (kept.kept_refused_entering o p).0 in (k, kept.refused_foremost e k);
+  offering_refusal_tells = λ q o result before after out out' x e p. let k = (kept.kept_refused_offering o p).0 in (k, kept.refused_foremost e k);
   settled = λ o before after after' a b p q. settled.settled o before p q;
-  settled-closing = λ o next verdicts n n' v v' a b p q. settled.settled-closing o next verdicts p q;
-  settled-check = λ o a b p q. settled.settled-check o p q;
-  settled-entering = λ o before after after' a b p q. settled.settled-entering o before p q;
-  settled-offering = λ o before after after' out out₁ out₂ a b p q. settled.settled-offering o before out p q;
-  refusal-writes-nothing = λ o before after x p. (kept.kept-refused o p).1;
-  refused-closing-writes-nothing = λ o next verdicts next' verdicts' x p. let k = kept.kept-refused-closing o p in (k.1, k.2);
-  refused-entering-leaves = λ o before after x p. (kept.kept-refused-entering o p).1;
-  refused-offering-leaves = λ o before after out out' x p. let k = kept.kept-refused-offering o p in (k.1, k.2);
+  settled_closing = λ o next verdicts n n' v v' a b p q. settled.settled_closing o next verdicts p q;
+  settled_check = λ o a b p q. settled.settled_check o p q;
+  settled_entering = λ o before after after' a b p q. settled.settled_entering o before p q;
+  settled_offering = λ o before after after' out out₁ out₂ a b p q. settled.settled_offering o before out p q;
+  refusal_writes_nothing = λ o before after x p. (kept.kept_refused o p).1;
+  refused_closing_writes_nothing = λ o next verdicts next' verdicts' x p. let k = kept.kept_refused_closing o p in (k.1, k.2);
+  refused_entering_leaves = λ o before after x p. (kept.kept_refused_entering o p).1;
+  refused_offering_leaves = λ o before after out out' x p. let k = kept.kept_refused_offering o p in (k.1, k.2);
 }
 
 -- DEMAND 2: closing gives exactly the verdicts and next register of document 01's rule, in which a row's mark changes only when its
 -- winner commits (document 02, L1). Sheets and registers read back as written, one encoding each.
 pub record SecondDemand : Type 0 where
   -- Closing that is done gives all that the fields after this one say, of the register and the sheet that its bytes read as.
-  pub closing-gives : (r t : Bytes) (n m : ℕ) (c : Closing) → close_outcome r t n m ≡ done c
+  pub closing_gives : (r t : Bytes) (n m : ℕ) (c : Closing) → close_outcome r t n m ≡ done c
       → (g : Register) × (s : Sheet) × (read_register r ≡ some g) × (read_sheet t ≡ some s) × Writes g s c
   -- The verdicts: one a set, in csn order; commit, or the smallest key lost or found wrong.
-  pub verdicts-written : (r t : Bytes) (g : Register) (s : Sheet) (c : Closing) → Gives r t g s c → c.verdicts ≡ flat verdict_bytes (verdicts g s)
-  pub verdict-says : (r t : Bytes) (g : Register) (s : Sheet) (c : Closing) → Gives r t g s c → (w : WriteSet) → Memᴰ w s.sets → VerdictSays g s w (verdict g s w)
+  pub verdicts_written : (r t : Bytes) (g : Register) (s : Sheet) (c : Closing) → Gives r t g s c → c.verdicts ≡ flat verdict_bytes (verdicts g s)
+  pub verdict_says : (r t : Bytes) (g : Register) (s : Sheet) (c : Closing) → Gives r t g s c → (w : WriteSet) → Memᴰ w s.sets → VerdictSays g s w (verdict g s w)
   -- The next register: its bytes read back as such, with one row a key.
-  pub next-register : (r t : Bytes) (g : Register) (s : Sheet) (c : Closing) → Gives r t g s c → read_register c.register ≡ some (next g s)
-  pub one-row-a-key : (r t : Bytes) (g : Register) (s : Sheet) (c : Closing) → Gives r t g s c
+  pub next_register : (r t : Bytes) (g : Register) (s : Sheet) (c : Closing) → Gives r t g s c → read_register c.register ≡ some (next g s)
+  pub one_row_a_key : (r t : Bytes) (g : Register) (s : Sheet) (c : Closing) → Gives r t g s c
       → (x y : Row) → Memᴰ x (next_rows g s) → Memᴰ y (next_rows g s) → x.key ≡ y.key → x ≡ y
   -- By document 01's rule: each claimed key has exactly one winner, a claimant that precedes all others;
-  pub one-winner : (r t : Bytes) (g : Register) (s : Sheet) (c : Closing) → Gives r t g s c → (k : ℕ) (w : WriteSet) → Claims g s k w
+  pub one_winner : (r t : Bytes) (g : Register) (s : Sheet) (c : Closing) → Gives r t g s c → (k : ℕ) (w : WriteSet) → Claims g s k w
       → (v : WriteSet) × (winner g s k ≡ some v) × Wins g s k v × ((u : WriteSet) → Wins g s k u → u ≡ v)
   -- a set commits just when it is fit and precedes every other fit set on each of its keys;
-  pub commits-just-when : (g : Register) (s : Sheet) (w : WriteSet) → sound_sheet s ≡ true → Memᴰ w s.sets → Says (commits g s w) (Committed g s w)
+  pub commits_just_when : (g : Register) (s : Sheet) (w : WriteSet) → sound_sheet s ≡ true → Memᴰ w s.sets → Says (commits g s w) (Committed g s w)
   -- each set committed, and every record of it stands, or it did not, and what stands at each of its keys is there by another set that
   -- committed, or is the old row as it stood, mark included, or is absent as before;
-  pub whole-or-none : (r t : Bytes) (g : Register) (s : Sheet) (c : Closing) → Gives r t g s c → (w : WriteSet) → Memᴰ w s.sets → WholeSet g s w ⊎ NoneOfSet g s w
+  pub whole_or_none : (r t : Bytes) (g : Register) (s : Sheet) (c : Closing) → Gives r t g s c → (w : WriteSet) → Memᴰ w s.sets → WholeSet g s w ⊎ NoneOfSet g s w
   -- a row's mark changes only when its winner commits: an old row stands as it stood, or its winner committed and it bears that mark;
-  pub mark-changes : (r t : Bytes) (g : Register) (s : Sheet) (c : Closing) → Gives r t g s c
+  pub mark_changes : (r t : Bytes) (g : Register) (s : Sheet) (c : Closing) → Gives r t g s c
       → (row x : Row) → Memᴰ row g.rows → Memᴰ x (next_rows g s) → x.key ≡ row.key → (x ≡ row) ⊎ MarkedByWinner g s x
   -- a loser stamps nothing: a row whose winner was lost stands as it stood;
-  pub loser-stamps-nothing : (r t : Bytes) (g : Register) (s : Sheet) (c : Closing) → Gives r t g s c
+  pub loser_stamps_nothing : (r t : Bytes) (g : Register) (s : Sheet) (c : Closing) → Gives r t g s c
       → (row : Row) (w : WriteSet) → Memᴰ row g.rows → Wins g s row.key w → commits g s w ≡ false → Memᴰ row (next_rows g s)
   -- a row whose winner committed bears its mark; rows that no committed set names stay as they were, byte for byte, and such absent keys
   -- stay absent.
-  pub winner-marks : (r t : Bytes) (g : Register) (s : Sheet) (c : Closing) → Gives r t g s c
+  pub winner_marks : (r t : Bytes) (g : Register) (s : Sheet) (c : Closing) → Gives r t g s c
       → (x : Row) (w : WriteSet) → Memᴰ x (next_rows g s) → Wins g s x.key w → commits g s w ≡ true → x.mark ≡ mark_in s w
-  pub others-stay : (r t : Bytes) (g : Register) (s : Sheet) (c : Closing) → Gives r t g s c
+  pub others_stay : (r t : Bytes) (g : Register) (s : Sheet) (c : Closing) → Gives r t g s c
       → (row : Row) → Memᴰ row g.rows → Unnamed (committed g s) row.key → Memᴰ row (next_rows g s)
-  pub bytes-stay : (r t : Bytes) (g : Register) (s : Sheet) (c : Closing) → Gives r t g s c
+  pub bytes_stay : (r t : Bytes) (g : Register) (s : Sheet) (c : Closing) → Gives r t g s c
       → (row : Row) → Memᴰ row g.rows → Unnamed (committed g s) row.key → HasRow r row × HasRow c.register row
-  pub absent-stay : (r t : Bytes) (g : Register) (s : Sheet) (c : Closing) → Gives r t g s c
+  pub absent_stay : (r t : Bytes) (g : Register) (s : Sheet) (c : Closing) → Gives r t g s c
       → (k : ℕ) → present g k ≡ false → Unnamed (committed g s) k → Absent (next_rows g s) k
   -- So a call of close that answers success left what closing gives, in the lengths that it answers,
-  pub closing-writes : (r t next verdicts : Bytes) (i j : ℕ) → CloseCall r t (closed.Wrote i j) next verdicts
+  pub closing_writes : (r t next verdicts : Bytes) (i j : ℕ) → CloseCall r t (closed.Wrote i j) next verdicts
       → (i ≡ length (take i next)) × (j ≡ length (take j verdicts))
       × ((g : Register) × (s : Sheet) × Gives r t g s (record { register = take i next; verdicts = take j verdicts }))
   -- and one that answers a refusal answers the foremost that applies, and left both buffers as they were.
-  pub closing-refuses : (r t next verdicts : Bytes) (x : Refusal) (c : CloseCall r t (closed.Refused x) next verdicts)
-      → Foremost (to_close r t (length c.lent-next) (length c.lent-verdicts)) x × (next ≡ c.lent-next) × (verdicts ≡ c.lent-verdicts)
+  pub closing_refuses : (r t next verdicts : Bytes) (x : Refusal) (c : CloseCall r t (closed.Refused x) next verdicts)
+      → Foremost (to_close r t (length c.lent_next) (length c.lent_verdicts)) x × (next ≡ c.lent_next) × (verdicts ≡ c.lent_verdicts)
   -- Asked of any closing: who keeps the promise of close meets the demand, and who meets it keeps the promise.
   pub keeps_meets : (c : Closer) → Keeps c → Demand2 c
-  pub meets-keeps : (c : Closer) → Demand2 c → Keeps c
+  pub meets_keeps : (c : Closer) → Demand2 c → Keeps c
   -- The same sheet closed again on its result is refused with 4, and so is every sheet on snapshot 4,294,967,295.
-  pub closed-again : (r t : Bytes) (n m : ℕ) (c : Closing) → close_outcome r t n m ≡ done c → (n' m' : ℕ) → close_outcome c.register t n' m' ≡ refused 4
-  pub none-follows : (r t : Bytes) (n m : ℕ) (g : Register) (s : Sheet) → read_register r ≡ some g → read_sheet t ≡ some s → g.snapshot ≡ 4294967295
+  pub closed_again : (r t : Bytes) (n m : ℕ) (c : Closing) → close_outcome r t n m ≡ done c → (n' m' : ℕ) → close_outcome c.register t n' m' ≡ refused 4
+  pub none_follows : (r t : Bytes) (n m : ℕ) (g : Register) (s : Sheet) → read_register r ≡ some g → read_sheet t ≡ some s → g.snapshot ≡ 4294967295
       → close_outcome r t n m ≡ refused 4
   -- Registers read back as written, and have one encoding.
-  pub register-reads-back : (g : Register) → sound_register g ≡ true → read_register (register_bytes g) ≡ some g
-  pub register-one-encoding : (a b : Bytes) (g : Register) → read_register a ≡ some g → read_register b ≡ some g → a ≡ b
+  pub register_reads_back : (g : Register) → sound_register g ≡ true → read_register (register_bytes g) ≡ some g
+  pub register_one_encoding : (a b : Bytes) (g : Register) → read_register a ≡ some g → read_register b ≡ some g → a ≡ b
   -- So do sheets.
-  pub sheet-reads-back : (s : Sheet) → sound_sheet s ≡ true → read_sheet (sheet_bytes s) ≡ some s
-  pub sheet-one-encoding : (a b : Bytes) (s : Sheet) → read_sheet a ≡ some s → read_sheet b ≡ some s → a ≡ b
+  pub sheet_reads_back : (s : Sheet) → sound_sheet s ≡ true → read_sheet (sheet_bytes s) ≡ some s
+  pub sheet_one_encoding : (a b : Bytes) (s : Sheet) → read_sheet a ≡ some s → read_sheet b ≡ some s → a ≡ b
 
-pub demand-2 : SecondDemand
-demand-2 = record {
-  closing-gives = writing.closing-writes;
-  verdicts-written = λ r t g s c h. (writing.gives-writes r t g s c h).verdict-bytes;
-  verdict-says = λ r t g s c h. (writing.gives-writes r t g s c h).verdict-says;
-  next-register = λ r t g s c h. (writing.gives-writes r t g s c h).next-register;
-  one-row-a-key = λ r t g s c h. (writing.gives-writes r t g s c h).one-row;
-  one-winner = λ r t g s c h. (writing.gives-writes r t g s c h).winners;
-  commits-just-when = committing.commits-iff;
-  whole-or-none = λ r t g s c h. (writing.gives-writes r t g s c h).each_set;
-  mark-changes = λ r t g s c h. (writing.gives-writes r t g s c h).mark-changes;
-  loser-stamps-nothing = λ r t g s c h. (writing.gives-writes r t g s c h).losers;
-  winner-marks = λ r t g s c h. (writing.gives-writes r t g s c h).marks;
-  others-stay = λ r t g s c h. (writing.gives-writes r t g s c h).others-stay;
-  bytes-stay = writing.bytes-stay;
-  absent-stay = λ r t g s c h. (writing.gives-writes r t g s c h).absent-stay;
-  closing-writes = λ r t next verdicts i j c. calls.close-writes c;
-  closing-refuses = λ r t next verdicts x c. calls.close-refuses c;
+pub demand_2 : SecondDemand
+demand_2 = record {
+  closing_gives = writing.closing_writes;
+  verdicts_written = λ r t g s c h. (writing.gives_writes r t g s c h).verdict_bytes_lem;
+  verdict_says = λ r t g s c h. (writing.gives_writes r t g s c h).verdict_says;
+  next_register = λ r t g s c h. (writing.gives_writes r t g s c h).next_register;
+  one_row_a_key = λ r t g s c h. (writing.gives_writes r t g s c h).one_row;
+  one_winner = λ r t g s c h. (writing.gives_writes r t g s c h).winners;
+  commits_just_when = committing.commits_iff;
+  whole_or_none = λ r t g s c h. (writing.gives_writes r t g s c h).each_set;
+  mark_changes = λ r t g s c h. (writing.gives_writes r t g s c h).mark_changes;
+  loser_stamps_nothing = λ r t g s c h. (writing.gives_writes r t g s c h).losers;
+  winner_marks = λ r t g s c h. (writing.gives_writes r t g s c h).marks;
+  others_stay = λ r t g s c h. (writing.gives_writes r t g s c h).others_stay;
+  bytes_stay = writing.bytes_stay;
+  absent_stay = λ r t g s c h. (writing.gives_writes r t g s c h).absent_stay;
+  closing_writes = λ r t next verdicts i j c. calls.close_writes c;
+  closing_refuses = λ r t next verdicts x c. calls.close_refuses c;
   keeps_meets = closers.keeps_meets;
-  meets-keeps = closers.settles;
-  closed-again = closers.closed-again;
-  none-follows = closers.none-follows;
-  register-reads-back = register.read-written;
-  register-one-encoding = register.one-encoding;
-  sheet-reads-back = sheet.read-written;
-  sheet-one-encoding = sheet.one-encoding;
+  meets_keeps = closers.settles;
+  closed_again = closers.closed_again;
+  none_follows = closers.none_follows;
+  register_reads_back = register.read_written;
+  register_one_encoding = register.one_encoding;
+  sheet_reads_back = sheet.read_written;
+  sheet_one_encoding = sheet.one_encoding;
 }
 
 -- DEMAND 3: however the offers of one epoch are dealt over sheets, repeated, ordered and joined, the final sheet is byte for byte the one
@@ -314,164 +314,164 @@ demand-2 = record {
 pub record ThirdDemand : Type 0 where
   -- However they are dealt: a tree of calls of open, put, notice and join, of any shape, on sheets opened or given. Where the last call
   -- answers success, it left the bytes of the sheet that Gathering defines from the offers, and answered their length.
-  pub final-sheet : (t : Tree) (n : ℕ) (after : Bytes) → Called t (Wrote n) after → (n ≡ length (sheet_bytes (gathered_in t))) × (take n after ≡ sheet_bytes (gathered_in t))
+  pub final_sheet : (t : Tree) (n : ℕ) (after : Bytes) → Called t (Wrote n) after → (n ≡ length (sheet_bytes (gathered_in t))) × (take n after ≡ sheet_bytes (gathered_in t))
   -- It does, if epoch and roster are one throughout and such that a sheet can have them, the offers are well-formed and of masters in the
   -- roster, and each buffer is at least 9,240 long: gathering never gets stuck.
-  pub never-refused : (e r : ℕ) → Head e r → (t : Tree) (a : Answer) (after : Bytes) → FairTree e r t → Called t a after → a ≡ Wrote (length (sheet_bytes (gathered_in t)))
+  pub never_refused : (e r : ℕ) → Head e r → (t : Tree) (a : Answer) (after : Bytes) → FairTree e r t → Called t a after → a ≡ Wrote (length (sheet_bytes (gathered_in t)))
   pub never_stuck : (e r : ℕ) → Head e r → (t : Tree) → FairTree e r t → ends paper t ≡ done (sheet_bytes (gathered_in t))
   -- And only then.
-  pub only-fair : (t : Tree) (b : Bytes) → ends paper t ≡ done b → Head (epoch_of t) (roster_of t) × FairTree (epoch_of t) (roster_of t) t
+  pub only_fair : (t : Tree) (b : Bytes) → ends paper t ≡ done b → Head (epoch_of t) (roster_of t) × FairTree (epoch_of t) (roster_of t) t
   -- An offer is so just when putting it into the freshly opened sheet is not refused.
-  pub opened-fresh : (e r : ℕ) → Head e r → open_outcome e r sheet_room ≡ done (sheet_bytes (empty_sheet e r))
-  pub good-set : (e r : ℕ) → Head e r → (sen : ℕ) (csn : Number 8) (b : Bytes)
+  pub opened_fresh : (e r : ℕ) → Head e r → open_outcome e r sheet_room ≡ done (sheet_bytes (empty_sheet e r))
+  pub good_set_lem : (e r : ℕ) → Head e r → (sen : ℕ) (csn : Number 8) (b : Bytes)
       → JustWhen (GoodSet e r sen csn.value b) ((c : Bytes) × (put_outcome (sheet_bytes (empty_sheet e r)) e sen csn.value b sheet_room ≡ done c))
-  pub good-notice : (e r : ℕ) → Head e r → (m n : ℕ)
+  pub good_notice_lem : (e r : ℕ) → Head e r → (m n : ℕ)
       → JustWhen (GoodNotice e r m n) ((c : Bytes) × (notice_outcome (sheet_bytes (empty_sheet e r)) e m n sheet_room ≡ done c))
   -- The sheet that Gathering defines: where all sheets were opened, or none that was given is spoiled, the gathered sheet of all offers;
-  pub from-opened : (t : Tree) → all_opened t ≡ true → spoiled_in t ≡ false
-  pub from-offers : (t : Tree) → spoiled_in t ≡ false → gathered_in t ≡ gathered (epoch_of t) (roster_of t) (offers_in t)
+  pub from_opened : (t : Tree) → all_opened t ≡ true → spoiled_in t ≡ false
+  pub from_offers : (t : Tree) → spoiled_in t ≡ false → gathered_in t ≡ gathered (epoch_of t) (roster_of t) (offers_in t)
   -- from the distinct offers: repeats and order make no difference.
-  pub distinct-offers : (e r : ℕ) (xs ys : List Offer) → Sub xs ys → Sub ys xs → gathered e r xs ≡ gathered e r ys
+  pub distinct_offers : (e r : ℕ) (xs ys : List Offer) → Sub xs ys → Sub ys xs → gathered e r xs ≡ gathered e r ys
   -- A sheet that is given is the sheet of its own offers, or it is spoiled; and spoiled is final.
-  pub given-sheet : (s : Sheet) → sound_sheet s ≡ true → s.spoiled ≡ false → gathered s.epoch s.roster (offers_of s) ≡ s
-  pub given-spoiled : (s : Sheet) → sound_sheet s ≡ true → s.spoiled ≡ true → s ≡ spoiled_sheet s.epoch s.roster
-  pub spoiled-is-final : (u t : Tree) (b : Bytes) → Within u t → ends paper u ≡ done (sheet_bytes (spoiled_sheet (epoch_of u) (roster_of u))) → ends paper t ≡ done b
+  pub given_sheet : (s : Sheet) → sound_sheet s ≡ true → s.spoiled ≡ false → gathered s.epoch s.roster (offers_of s) ≡ s
+  pub given_spoiled : (s : Sheet) → sound_sheet s ≡ true → s.spoiled ≡ true → s ≡ spoiled_sheet s.epoch s.roster
+  pub spoiled_is_final : (u t : Tree) (b : Bytes) → Within u t → ends paper u ≡ done (sheet_bytes (spoiled_sheet (epoch_of u) (roster_of u))) → ends paper t ≡ done b
       → b ≡ sheet_bytes (spoiled_sheet (epoch_of u) (roster_of u))
   -- So all depots end in the same bytes,
   pub same_bytes : (e r : ℕ) → Head e r → (t u : Tree) → FairTree e r t → FairTree e r u → SameOffers t u → (b : Bytes) × (ends paper t ≡ done b) × (ends paper u ≡ done b)
   pub same_left : (t u : Tree) (n m : ℕ) (held other : Bytes) → Called t (Wrote n) held → Called u (Wrote m) other
       → epoch_of t ≡ epoch_of u → roster_of t ≡ roster_of u → SameOffers t u → (n ≡ m) × (take n held ≡ take m other)
   -- and reach the same verdicts and register, or the same refusal, each with buffers of its own that are long enough.
-  pub same-closing : (e r : ℕ) → Head e r → (t u : Tree) → FairTree e r t → FairTree e r u → SameOffers t u
+  pub same_closing : (e r : ℕ) → Head e r → (t u : Tree) → FairTree e r t → FairTree e r u → SameOffers t u
       → (g : Bytes) (n m n' m' : ℕ) → LongEnough n m → LongEnough n' m'
       → (a : Bytes) × (b : Bytes) × (ends paper t ≡ done a) × (ends paper u ≡ done b) × (close_outcome g a n m ≡ close_outcome g b n' m')
-  pub same-closed : (t u : Tree) (n m : ℕ) (held other : Bytes) → Called t (Wrote n) held → Called u (Wrote m) other
+  pub same_closed : (t u : Tree) (n m : ℕ) (held other : Bytes) → Called t (Wrote n) held → Called u (Wrote m) other
       → epoch_of t ≡ epoch_of u → roster_of t ≡ roster_of u → SameOffers t u
       → (r next verdicts next' verdicts' : Bytes) (a b : Closed) (c : CloseCall r (take n held) a next verdicts) (d : CloseCall r (take m other) b next' verdicts')
       → Roomy c → Roomy d → (a ≡ b) × (written_next a next ≡ written_next b next') × (written_verdicts a verdicts ≡ written_verdicts b verdicts')
 
-pub demand-3 : ThirdDemand
-demand-3 = record {
-  final-sheet = λ t n after c. calls.calls-gather c;
-  never-refused = calls.calls-never-refused;
+pub demand_3 : ThirdDemand
+demand_3 = record {
+  final_sheet = λ t n after c. calls.calls_gather c;
+  never_refused = calls.calls_never_refused;
   never_stuck = stuck.never_stuck;
-  only-fair = λ t b p. ((dealt.ended t b p).head, stuck.fair-ended t b p);
-  opened-fresh = stuck.opens-fresh;
-  good-set = stuck.good-set-put;
-  good-notice = stuck.good-notice-put;
-  from-opened = dealt.opened-unspoiled;
-  from-offers = dealt.unspoiled;
-  distinct-offers = gathering.same-offers;
-  given-sheet = λ s e. own.own-offers s e;
-  given-spoiled = own.own-spoiled;
-  spoiled-is-final = dealt.stays-spoiled;
+  only_fair = λ t b p. ((dealt.ended t b p).head, stuck.fair_ended t b p);
+  opened_fresh = stuck.opens_fresh;
+  good_set_lem = stuck.good_set_put;
+  good_notice_lem = stuck.good_notice_put;
+  from_opened = dealt.opened_unspoiled;
+  from_offers = dealt.unspoiled;
+  distinct_offers = gathering.same_offers;
+  given_sheet = λ s e. own.own_offers s e;
+  given_spoiled = own.own_spoiled;
+  spoiled_is_final = dealt.stays_spoiled;
   same_bytes = bytes.same_bytes;
-  same_left = λ t u n m held other p q e f h. calls.depots-same p q e f h;
-  same-closing = rooms.same-closing;
-  same-closed = λ t u n m held other p q e f h r next verdicts next' verdicts' a b c d x y. calls.depots-alike p q e f h c d x y;
+  same_left = λ t u n m held other p q e f h. calls.depots_same p q e f h;
+  same_closing = rooms.same_closing;
+  same_closed = λ t u n m held other p q e f h r next verdicts next' verdicts' a b c d x y. calls.depots_alike p q e f h c d x y;
 }
 
 -- THE VISIT DESK (document 02, L2): clerks type kind, tag and value; the open set is filled where it stands, kept in key order, then offered to
 -- the depot's sheet, which empties it unless refused.
 pub record TheDesk : Type 0 where
   -- The open set reads back as written, has one encoding, and the empty one is all zero.
-  pub open-reads-back : (rs : List Record) → sound_open rs ≡ true → read_open (open_set_of rs) ≡ some rs
-  pub open-one-encoding : (o : OpenSet) (rs : List Record) → read_open o ≡ some rs → (o ≡ open_set_of rs) × (sound_open rs ≡ true)
-  pub open-empty : open_set_of [] ≡ empty_set
+  pub open_reads_back : (rs : List Record) → sound_open rs ≡ true → read_open (open_set_of rs) ≡ some rs
+  pub open_one_encoding : (o : OpenSet) (rs : List Record) → read_open o ≡ some rs → (o ≡ open_set_of rs) × (sound_open rs ≡ true)
+  pub open_empty : open_set_of [] ≡ empty_set
   -- Entering that is not refused adds exactly that record, in key order; and the records of a set, typed one by one in any order, are none of
   -- them refused and end in the same open set.
   pub adds_one : (o : OpenSet) (kind : ℕ) (tag : Bytes) (value : ℕ) (after : OpenSet) → enter_outcome o kind tag value ≡ done after → Enters o kind tag value after
   pub any_order : (rs ts : List Record) → sound_open rs ≡ true → Permᴰ rs ts → typed.enter_all ts empty_set ≡ done (open_set_of rs)
   -- Offering is put of its records, so demand 3's trees may hold a set that came through the desk; not refused, it leaves the open set empty.
-  pub offer-is-put : (t : Tree) (n : ℕ) (held : Bytes) → Called t (Wrote n) held → (o : OpenSet) (e sen : ℕ) (csn : Number 8) (before : Bytes) (a : Answer) (o' : OpenSet) (after : Bytes)
+  pub offer_is_put : (t : Tree) (n : ℕ) (held : Bytes) → Called t (Wrote n) held → (o : OpenSet) (e sen : ℕ) (csn : Number 8) (before : Bytes) (a : Answer) (o' : OpenSet) (after : Bytes)
       → OfferPromise (offer_outcome o (take n held) e sen csn.value (length before)) o before a o' after → Called (put t e sen csn (offered_bytes o) (length before)) a after
-  pub offer-gathers : (t : Tree) (n m : ℕ) (held : Bytes) → Called t (Wrote n) held → (o : OpenSet) (rs : List Record) → read_open o ≡ some rs → (e sen : ℕ) (csn : Number 8) (before : Bytes)
+  pub offer_gathers : (t : Tree) (n m : ℕ) (held : Bytes) → Called t (Wrote n) held → (o : OpenSet) (rs : List Record) → read_open o ≡ some rs → (e sen : ℕ) (csn : Number 8) (before : Bytes)
       (o' : OpenSet) (after : Bytes) → OfferPromise (offer_outcome o (take n held) e sen csn.value (length before)) o before (Wrote m) o' after
       → (take m after ≡ sheet_bytes (gathered_in (put t e sen csn (records_bytes rs) (length before)))) × (o' ≡ empty_set)
   -- A right tag with one digit altered, or two unequal neighbouring digits exchanged, is no right tag, at any of the eleven places;
-  pub one-altered : (t : Bytes) (p v : ℕ) → right_tag t ≡ true → p < 11 → (v ≡ get_or t p 0 → ⊥) → right_tag (set t p v) ≡ false
-  pub neighbours-exchanged : (t : Bytes) (p : ℕ) → right_tag t ≡ true → suc p < 11 → (get_or t p 0 ≡ get_or t (suc p) 0 → ⊥) → right_tag (exchanged t p) ≡ false
+  pub one_altered : (t : Bytes) (p v : ℕ) → right_tag t ≡ true → p < 11 → (v ≡ get_or t p 0 → ⊥) → right_tag (set t p v) ≡ false
+  pub neighbours_exchanged : (t : Bytes) (p : ℕ) → right_tag t ≡ true → suc p < 11 → (get_or t p 0 ≡ get_or t (suc p) 0 → ⊥) → right_tag (exchanged t p) ≡ false
   -- and a tag that is not right is refused with 11;
-  pub wrong-tag : (o : OpenSet) (kind : ℕ) (tag : Bytes) (value : ℕ) → is_open_set o ≡ true → is_kind kind ≡ true → sound_value kind value ≡ true → right_tag tag ≡ false
+  pub wrong_tag : (o : OpenSet) (kind : ℕ) (tag : Bytes) (value : ℕ) → is_open_set o ≡ true → is_kind kind ≡ true → sound_value kind value ≡ true → right_tag tag ≡ false
       → enter_outcome o kind tag value ≡ refused 11
   -- the tag of a station's key has that key, two stations have two tags, and no station has two;
-  pub tag-right : (k : ℕ) → right_tag (tag_of k) ≡ true
-  pub key-of-tag : (k : ℕ) → is_key k ≡ true → key_of_tag (tag_of k) ≡ some k
-  pub two-tags : (k j : ℕ) → is_key k ≡ true → is_key j ≡ true → tag_of k ≡ tag_of j → k ≡ j
+  pub tag_right : (k : ℕ) → right_tag (tag_of k) ≡ true
+  pub key_of_tag_lem : (k : ℕ) → is_key k ≡ true → key_of_tag (tag_of k) ≡ some k
+  pub two_tags : (k j : ℕ) → is_key k ≡ true → is_key j ≡ true → tag_of k ≡ tag_of j → k ≡ j
   pub one_tag : (t : Bytes) (k : ℕ) → key_of_tag t ≡ some k → t ≡ tag_of k
   -- and station 572 is tagged 00000005724.
-  pub station-572 : (tag_of 572 ≡ tags.tag572) × (key_of_tag tags.tag572 ≡ some 572)
+  pub station_572 : (tag_of 572 ≡ tags.tag572) × (key_of_tag tags.tag572 ≡ some 572)
 
-pub the-desk : TheDesk
-the-desk = record {
-  open-reads-back = opened.open-written;
-  open-one-encoding = opened.written-open;
-  open-empty = opened.empty-open;
+pub the_desk : TheDesk
+the_desk = record {
+  open_reads_back = opened.open_written;
+  open_one_encoding = opened.written_open;
+  open_empty = opened.empty_open;
   adds_one = entering.enters;
   any_order = typed.any_order;
-  offer-is-put = λ t n held c o e sen csn before a o' after p. calls.offer-is-put c o e sen csn before p;
-  offer-gathers = λ t n m held c o rs r e sen csn before o' after p. calls.offer-gathers c o rs r e sen csn before p;
-  one-altered = detects.one-altered;
-  neighbours-exchanged = detects.neighbours-exchanged;
-  wrong-tag = entering.wrong-tag;
-  tag-right = tags.tag-right;
-  key-of-tag = tags.key-of-tag;
-  two-tags = tags.two-tags;
+  offer_is_put = λ t n held c o e sen csn before a o' after p. calls.offer_is_put c o e sen csn before p;
+  offer_gathers = λ t n m held c o rs r e sen csn before o' after p. calls.offer_gathers c o rs r e sen csn before p;
+  one_altered = detects.one_altered;
+  neighbours_exchanged = detects.neighbours_exchanged;
+  wrong_tag = entering.wrong_tag;
+  tag_right = tags.tag_right;
+  key_of_tag_lem = tags.key_of_tag_lem;
+  two_tags = tags.two_tags;
   one_tag = tags.one_tag;
-  station-572 = tags.station-572;
+  station_572 = tags.station_572;
 }
 
 -- THE WRONG VERSIONS that document 01 names, and two that L1 rules out: each demand, asked of any candidate, rejects them on an example.
 pub record WrongVersions : Type 0 where
   -- Refusing always, or answering always alike: demand 2 rejects both on A and N.
-  pub refusing-on-A : (c : Closer) → RefusesAlways c → Rejects c examples.A
-  pub refusing-on-N : (c : Closer) → RefusesAlways c → Rejects c N
-  pub refusing-always : (c : Closer) → RefusesAlways c → Demand2 c → ⊥
-  pub alike-on-A-and-N : (c : Closer) → AnswersAlike c → wrong.AsksOn c examples.A → wrong.AsksOn c N → ⊥
-  pub answering-alike : (c : Closer) → AnswersAlike c → Demand2 c → ⊥
+  pub refusing_on_A : (c : Closer) → RefusesAlways c → Rejects c examples.A
+  pub refusing_on_N : (c : Closer) → RefusesAlways c → Rejects c N
+  pub refusing_always : (c : Closer) → RefusesAlways c → Demand2 c → ⊥
+  pub alike_on_A_and_N : (c : Closer) → AnswersAlike c → wrong.AsksOn c examples.A → wrong.AsksOn c N → ⊥
+  pub answering_alike : (c : Closer) → AnswersAlike c → Demand2 c → ⊥
   -- Doing nothing: demand 2 on A.
-  pub nothing-on-A : (c : Closer) → DoesNothing c → Rejects c examples.A
-  pub doing-nothing : (c : Closer) → DoesNothing c → Demand2 c → ⊥
+  pub nothing_on_A : (c : Closer) → DoesNothing c → Rejects c examples.A
+  pub doing_nothing : (c : Closer) → DoesNothing c → Demand2 c → ⊥
   -- What L1 rules out, a row marked by a winner that was lost, the rule before it: demand 2 on C;
-  pub losers-on-C : (c : Closer) → LosersStamp c → Rejects c examples.C
-  pub losers-stamp : (c : Closer) → LosersStamp c → Demand2 c → ⊥
+  pub losers_on_C : (c : Closer) → LosersStamp c → Rejects c examples.C
+  pub losers_stamp : (c : Closer) → LosersStamp c → Demand2 c → ⊥
   -- and only the first row of a committed set marked: demand 2 on a set of three rows.
-  pub first-on-three : (c : Closer) → FirstRowStamped c → Rejects c examples.three_rows
-  pub first-row-stamped : (c : Closer) → FirstRowStamped c → Demand2 c → ⊥
+  pub first_on_three : (c : Closer) → FirstRowStamped c → Rejects c examples.three_rows
+  pub first_row_stamped : (c : Closer) → FirstRowStamped c → Demand2 c → ⊥
   -- Always spoiled: demand 3 on G.
-  pub spoiled-on-G : gatherers.AsksOn always_spoiled example_g → ⊥
-  pub always-spoiled : Demand3 always_spoiled → ⊥
+  pub spoiled_on_G : gatherers.AsksOn always_spoiled example_g → ⊥
+  pub always_spoiled_lem : Demand3 always_spoiled → ⊥
   -- Gathering the first offer and then only repeating that sheet: demand 3 on A.
-  pub first-offer-on-A : gatherers.AsksOn first_offer example_a → ⊥
-  pub first-offer : Demand3 first_offer → ⊥
+  pub first_offer_on_A : gatherers.AsksOn first_offer example_a → ⊥
+  pub first_offer_lem : Demand3 first_offer → ⊥
   -- Counting deliveries as sets: demand 3 on G with notice 1.
-  pub deliveries-on-G1 : gatherers.AsksOn counts_deliveries example_g1 → ⊥
+  pub deliveries_on_G1 : gatherers.AsksOn counts_deliveries example_g1 → ⊥
   pub deliveries : Demand3 counts_deliveries → ⊥
   -- The operations of document 01 meet both.
-  pub paper-closes : Demand2 closers.paper_closer
-  pub paper-gathers : Demand3 paper
+  pub paper_closes : Demand2 closers.paper_closer
+  pub paper_gathers : Demand3 paper
 
-pub wrong-versions : WrongVersions
-wrong-versions = record {
-  refusing-on-A = wrong.refusing-on-A;
-  refusing-on-N = wrong.refusing-on-N;
-  refusing-always = wrong.refusing-always-fails;
-  alike-on-A-and-N = wrong.alike-on-A-and-N;
-  answering-alike = wrong.answering-alike-fails;
-  nothing-on-A = wrong.nothing-on-A;
-  doing-nothing = wrong.doing-nothing-fails;
-  losers-on-C = wrong.losers-on-C;
-  losers-stamp = wrong.losers-stamp-fails;
-  first-on-three = wrong.first-on-three;
-  first-row-stamped = wrong.first-row-stamped-fails;
-  spoiled-on-G = gatherers.spoiled-on-G;
-  always-spoiled = gatherers.always-spoiled-fails;
-  first-offer-on-A = gatherers.first-offer-on-A;
-  first-offer = gatherers.first-offer-fails;
-  deliveries-on-G1 = gatherers.deliveries-on-G1;
-  deliveries = gatherers.deliveries-fail;
-  paper-closes = closers.paper-closes;
-  paper-gathers = gatherers.paper-meets;
+pub wrong_versions : WrongVersions
+wrong_versions = record {
+  refusing_on_A = wrong.refusing_on_A;
+  refusing_on_N = wrong.refusing_on_N;
+  refusing_always = wrong.refusing_always_fails;
+  alike_on_A_and_N = wrong.alike_on_A_and_N;
+  answering_alike = wrong.answering_alike_fails;
+  nothing_on_A = wrong.nothing_on_A;
+  doing_nothing = wrong.doing_nothing_fails;
+  losers_on_C = wrong.losers_on_C;
+  losers_stamp = wrong.losers_stamp_fails;
+  first_on_three = wrong.first_on_three;
+  first_row_stamped = wrong.first_row_stamped_fails;
+  spoiled_on_G = gatherers.spoiled_on_G;
+  always_spoiled_lem = gatherers.always_spoiled_fails;
+  first_offer_on_A = gatherers.first_offer_on_A;
+  first_offer_lem = gatherers.first_offer_fails;
+  deliveries_on_G1 = gatherers.deliveries_on_G1;
+  deliveries = gatherers.deliveries_fail;
+  paper_closes = closers.paper_closes;
+  paper_gathers = gatherers.paper_meets;
 }
 
 -- THE CLERK'S STARRED EXAMPLES hold, by computation

@@ -8,14 +8,14 @@ use Rattle.rules.specs.Lists.{◌and◌}
 use Rattle.rules.specs.Sheet.{Sheet, read_sheet, are_records}
 use Rattle.rules.specs.OpenSet.{is_open_set, offered_bytes}
 use Rattle.rules.specs.Refused.{refused, set_with, offered_set, offer_to, put_outcome, offer_outcome}
-use Rattle.laws.specs.SheetLaws.{records-unread}
-use Rattle.laws.specs.OpenSets.{offers-records}
+use Rattle.laws.specs.SheetLaws.{records_unread}
+use Rattle.laws.specs.OpenSets.{offers_records}
 
 -- what an ill-formed open set offers is no set
-no-set : (e sen csn : ℕ) (o : OpenSet) → is_open_set o ≡ false → offered_set e sen csn (offered_bytes o) ≡ none
+no_set_lem : (e sen csn : ℕ) (o : OpenSet) → is_open_set o ≡ false → offered_set e sen csn (offered_bytes o) ≡ none
 unfolding offered_set set_with ◌and◌
-no-set e sen csn o h = let r : are_records (offered_bytes o) ≡ false = offers-records o ∙ simp h in simp (records-unread (offered_bytes o) r)
+no_set_lem e sen csn o h = let r : are_records (offered_bytes o) ≡ false = offers_records o ∙ simp h in simp (records_unread (offered_bytes o) r)
 
-pub offer-examines : (o : OpenSet) (sheet : Bytes) (e sen csn room : ℕ) (s : Sheet) → read_sheet sheet ≡ some s → is_open_set o ≡ false → offer_outcome o sheet e sen csn room ≡ refused 3
+pub offer_examines : (o : OpenSet) (sheet : Bytes) (e sen csn room : ℕ) (s : Sheet) → read_sheet sheet ≡ some s → is_open_set o ≡ false → offer_outcome o sheet e sen csn room ≡ refused 3
 unfolding offer_outcome put_outcome offer_to
-offer-examines o sheet e sen csn room s p h = simp (p, no-set e sen csn o h)
+offer_examines o sheet e sen csn room s p h = simp (p, no_set_lem e sen csn o h)

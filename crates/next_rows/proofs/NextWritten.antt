@@ -20,10 +20,10 @@ use Rattle.rules.specs.Becoming.{applied, applied_to, is_deleted, row_after, ins
 use Rattle.laws.specs.ListLaws.{keep→, →keep}
 use Rattle.laws.specs.RegisterLaws.{sound_register→}
 use Rattle.laws.specs.Distinct.{tri, less, more, equal}
-use Rattle.laws.specs.Rising.{Rising, nil, cons, rising→, rising-unique, rising-keep, rising-append}
+use Rattle.laws.specs.Rising.{Rising, nil, cons, rising→, rising_unique, rising_keep, rising_append}
 use Rattle.laws.specs.Choice.{Choice}
-use Rattle.laws.specs.Applied.{applied→, applied-each, applied_to-is}
-use Rattle.laws.specs.NextRows.{gone, remains, key-stays, next→, →next-old, →next-insert, insert-absent, next-rising, next-above}
+use Rattle.laws.specs.Applied.{applied→, applied_each, applied_to_is}
+use Rattle.laws.specs.NextRows.{gone, remains, key_stays, next→, →next_old, →next_insert, insert_absent, next_rising, next_above}
 use Rattle.registers.specs.RegisterReadings.{row_at, no_row}
 use Rattle.registers.specs.RowsRise.{larger}
 use Rattle.sheets.specs.SheetReadings.{set_at, record_at}
@@ -32,9 +32,9 @@ use Rattle.judging.specs.declared.key.FirstKey.TheVariants.{Key, None}
 use Rattle.judging.specs.Tables.{committed_in}
 use Rattle.judging.specs.Judged.{Inserts, InsertsIn, LeastAbove}
 use Rattle.next_rows.specs.NextRow.{Later}
-use Rattle.laws.specs.Places.{mem-at, at_mem}
-use Rattle.sheets.specs.SheetMembers.{record-number}
-use Rattle.judging.specs.TableLaws.{CommitsAt, committed_in→, applied-at}
+use Rattle.laws.specs.Places.{mem_at, at_mem}
+use Rattle.sheets.specs.SheetMembers.{record_number}
+use Rattle.judging.specs.TableLaws.{CommitsAt, committed_in→, applied_at}
 
 -- the rows whose keys are at most a
 unfoldable pub up_to : ℕ → List Row → List Row
@@ -55,11 +55,11 @@ record Between (xs : List Row) (a b : ℕ) (x : Row) : Type 0 where
   within : x.key ≤ b
 
 -- if ys are the rows between a and b, those up to b are those up to a, and ys
-up_to-more : {xs : List Row} (a b : ℕ) (ys : List Row) → Rising key_of xs → a ≤ b → Rising key_of ys
+up_to_more : {xs : List Row} (a b : ℕ) (ys : List Row) → Rising key_of xs → a ≤ b → Rising key_of ys
     → ((x : Row) → Memᴰ x ys → Between xs a b x) → ((x : Row) → Between xs a b x → Memᴰ x ys) → up_to b xs ≡ up_to a xs ++ ys
 unfolding up_to
-up_to-more {xs} a b ys r h ry f t =
-    rising-unique key_of (rising-keep key_of _ r) (rising-append key_of (rising-keep key_of _ r) ry (λ x y m k. apart x y (up_to→ a xs x m).1 (f y k).above))
+up_to_more {xs} a b ys r h ry f t =
+    rising_unique key_of (rising_keep key_of _ r) (rising_append key_of (rising_keep key_of _ r) ry (λ x y m k. apart x y (up_to→ a xs x m).1 (f y k).above))
     (λ x m. let p = up_to→ b xs x m in go x p.0 p.1 (leb x.key a) refl)
     (λ x m. ⊎_elim (λ k. let p = up_to→ a xs x k in →up_to b xs x p.0 (far x p.1)) (λ k. let p = f x k in →up_to b xs x p.in_list p.within) (Memᴰ.append_cases (up_to a xs) m))
   where
@@ -74,35 +74,35 @@ up_to-more {xs} a b ys r h ry f t =
     go x m k false e = Memᴰ.append_right (up_to a xs) (t x (record { in_list = m; above = leb-false x.key a e; within = k }))
 
 -- all rows are up to a, where none is above it
-up_to-all : {xs : List Row} (a : ℕ) → Rising key_of xs → ((x : Row) → Memᴰ x xs → a < x.key → ⊥) → up_to a xs ≡ xs
+up_to_all : {xs : List Row} (a : ℕ) → Rising key_of xs → ((x : Row) → Memᴰ x xs → a < x.key → ⊥) → up_to a xs ≡ xs
 unfolding up_to
-up_to-all {xs} a r f =
-    rising-unique key_of (rising-keep key_of _ r) r (λ x m. (up_to→ a xs x m).0) (λ x m. →up_to a xs x m (not-above x (f x m)))
+up_to_all {xs} a r f =
+    rising_unique key_of (rising_keep key_of _ r) r (λ x m. (up_to→ a xs x m).0) (λ x m. →up_to a xs x m (not_above x (f x m)))
   where
-    not-above : (x : Row) → (a < x.key → ⊥) → x.key ≤ a
-    not-above x n = omega arith
+    not_above : (x : Row) → (a < x.key → ⊥) → x.key ≤ a
+    not_above x n = omega arith
 
 -- none is up to 0
-up_to-none : {xs : List Row} → Rising key_of xs → ((x : Row) → Memᴰ x xs → 0 < x.key) → up_to 0 xs ≡ []
+up_to_none : {xs : List Row} → Rising key_of xs → ((x : Row) → Memᴰ x xs → 0 < x.key) → up_to 0 xs ≡ []
 unfolding up_to
-up_to-none {xs} r f =
-    rising-unique key_of (rising-keep key_of _ r) nil (λ x m. let p = up_to→ 0 xs x m in absurd (never x (f x p.0) p.1)) (λ x m. absurd (Memᴰ.not-nil m))
+up_to_none {xs} r f =
+    rising_unique key_of (rising_keep key_of _ r) nil (λ x m. let p = up_to→ 0 xs x m in absurd (never x (f x p.0) p.1)) (λ x m. absurd (Memᴰ.not-nil m))
   where
     never : (x : Row) → 0 < x.key → x.key ≤ 0 → ⊥
     never x p q = omega arith
 
-keep-length : {A : Type 0} (p : A → Bool) (xs : List A) → length (keep p xs) ≤ length xs
+keep_length : {A : Type 0} (p : A → Bool) (xs : List A) → length (keep p xs) ≤ length xs
 unfolding keep
-keep-length p [] = omega arith
-keep-length p (x ∷ xs) = go (p x) (keep-length p xs)
+keep_length p [] = omega arith
+keep_length p (x ∷ xs) = go (p x) (keep_length p xs)
   where
     go : (t : Bool) → length (keep p xs) ≤ length xs → length (if t then x ∷ keep p xs else keep p xs) ≤ suc (length xs)
     go true h = omega arith
     go false h = omega arith
 
-pub up_to-length : (a : ℕ) (xs : List Row) → length (up_to a xs) ≤ length xs
+pub up_to_length : (a : ℕ) (xs : List Row) → length (up_to a xs) ≤ length xs
 unfolding up_to
-up_to-length a xs = keep-length _ xs
+up_to_length a xs = keep_length _ xs
 
 -- ---- where the walk stands
 
@@ -113,7 +113,7 @@ New s lost = InsertsIn s lost (length s.sets)
 -- the rows before row i have keys up to `after`, the others above it; `next` is the first insert above it
 pub record At (g : Register) (s : Sheet) (lost : List ℕ) (i after : ℕ) (next : FirstKey) : Type 0 where
   pub passed : (u : ℕ) → u < i → (row_at g u).key ≤ after
-  pub to-come : (u : ℕ) → i ≤ u → u < length g.rows → after < (row_at g u).key
+  pub to_come : (u : ℕ) → i ≤ u → u < length g.rows → after < (row_at g u).key
   pub coming : LeastAbove (New s lost) after next
 
 -- no insert before the first one
@@ -122,9 +122,9 @@ at_most P after None c j a p = absurd (c j a p)
 at_most P after (Key k) c j a p = (k, refl, c.least j a p)
 
 -- what is the first above one number is the first above a later one that it is above
-still-coming : (P : ℕ → Type 0) (after key : ℕ) (next : FirstKey) → after ≤ key → Later key next → LeastAbove P after next → LeastAbove P key next
-still-coming P after key None h l c = λ j a p. c j (omega arith) p
-still-coming P after key (Key k) h l c = record { above = l; holds = c.holds; least = λ j a p. c.least j (omega arith) p }
+still_coming : (P : ℕ → Type 0) (after key : ℕ) (next : FirstKey) → after ≤ key → Later key next → LeastAbove P after next → LeastAbove P key next
+still_coming P after key None h l c = λ j a p. c j (omega arith) p
+still_coming P after key (Key k) h l c = record { above = l; holds = c.holds; least = λ j a p. c.least j (omega arith) p }
 
 -- the sets that commit by the table, rightly chosen
 module _ (g : Register) (s : Sheet) (lost : List ℕ) (sound_g : sound_register g ≡ true) (sound_s : sound_sheet s ≡ true) (chosen : Choice g s (committed_in s lost)) where
@@ -136,32 +136,32 @@ module _ (g : Register) (s : Sheet) (lost : List ℕ) (sound_g : sound_register 
   rows = rows_after s C g.rows
 
   -- an applied insert is a new key, and the other way
-  new-key : (r : Record) → Memᴰ r (applied C) → r.kind ≡ insert → New s lost r.key
-  new-key r m e =
+  new_key : (r : Record) → Memᴰ r (applied C) → r.kind ≡ insert → New s lost r.key
+  new_key r m e =
       let a = applied→ C r m in
       let u = committed_in→ s lost a.set a.committed in
-      let j = record-number a.set a.in-set in
-      rw-set a.set u (record { number = j.0; within = j.1; is-insert = ap (λ (x : Record). x.kind) j.2 ∙ e; keyed = ap record_key j.2 })
+      let j = record_number a.set a.in_set in
+      rw_set a.set u (record { number = j.0; within = j.1; is_insert_lem = ap (λ (x : Record). x.kind) j.2 ∙ e; keyed = ap record_key j.2 })
     where
-      rw-set : (w : WriteSet) → CommitsAt s lost w → Inserts w r.key → New s lost r.key
-      rw-set w u p = record { number = u.number; within = u.within; committed = u.no_key; inserts = rw (sym u.is_set) at p }
+      rw_set : (w : WriteSet) → CommitsAt s lost w → Inserts w r.key → New s lost r.key
+      rw_set w u p = record { number = u.number; within = u.within; committed = u.no_key; inserts = rw (sym u.is_set) at p }
 
-  new-record : (k : ℕ) → New s lost k → (r : Record) × Memᴰ r (applied C) × (r.kind ≡ insert) × (r.key ≡ k)
-  new-record k p =
+  new_record : (k : ℕ) → New s lost k → (r : Record) × Memᴰ r (applied C) × (r.kind ≡ insert) × (r.key ≡ k)
+  new_record k p =
       let q = p.inserts in
-      (record_at (set_at s p.number) q.number, applied-at s lost p.number q.number p.within p.committed q.within, q.is-insert, q.keyed)
+      (record_at (set_at s p.number) q.number, applied_at s lost p.number q.number p.within p.committed q.within, q.is_insert_lem, q.keyed)
 
   -- the old row that a row of the next register remains of, by its number
-  old-number : (row : Row) → Memᴰ row g.rows → (u : ℕ) × (u < length g.rows) × (row_at g u ≡ row)
+  old_number : (row : Row) → Memᴰ row g.rows → (u : ℕ) × (u < length g.rows) × (row_at g u ≡ row)
   unfolding row_at
-  old-number row m = mem-at no_row m
+  old_number row m = mem_at no_row m
 
-  old-in : (u : ℕ) → u < length g.rows → Memᴰ (row_at g u) g.rows
+  old_in : (u : ℕ) → u < length g.rows → Memᴰ (row_at g u) g.rows
   unfolding row_at
-  old-in u h = at_mem no_row g.rows u h
+  old_in u h = at_mem no_row g.rows u h
 
-  after-rising : (row : Row) → Rising key_of (row_after s C row)
-  after-rising row = go (is_deleted (applied_to (applied C) row.key)) refl
+  after_rising : (row : Row) → Rising key_of (row_after s C row)
+  after_rising row = go (is_deleted (applied_to (applied C) row.key)) refl
     where
       go : (b : Bool) → is_deleted (applied_to (applied C) row.key) ≡ b → Rising key_of (row_after s C row)
       go true e = rw (gone s C row e) nil
@@ -170,73 +170,73 @@ module _ (g : Register) (s : Sheet) (lost : List ℕ) (sound_g : sound_register 
   -- where a row of the next register that is above `after` comes from: an old row to come, or an insert to come
   module _ (i after : ℕ) (next : FirstKey) (at : At g s lost i after next) (x : Row) (m : Memᴰ x (rows)) (above : after < x.key) where
     pub data From : Type 0 where
-      a-row : (u : ℕ) → i ≤ u → u < length g.rows → x.key ≡ (row_at g u).key → Memᴰ x (row_after s C (row_at g u)) → From
-      an-insert : (r : Record) → Memᴰ r (applied C) → r.kind ≡ insert → x ≡ inserted_row s C r → x.key ≡ r.key → (k : ℕ) → next ≡ Key k → k ≤ r.key → From
+      a_row : (u : ℕ) → i ≤ u → u < length g.rows → x.key ≡ (row_at g u).key → Memᴰ x (row_after s C (row_at g u)) → From
+      an_insert : (r : Record) → Memᴰ r (applied C) → r.kind ≡ insert → x ≡ inserted_row s C r → x.key ≡ r.key → (k : ℕ) → next ≡ Key k → k ≤ r.key → From
 
     from : From
     unfolding inserted_row
     from =
         ⊎_elim
-        (λ q. let u = old-number q.0 q.1 in row_from u.0 u.1 (rw (sym u.2) at q.2))
-        (λ q. insert-from q.0 q.1 q.2 q.3 (ap key_of q.3))
+        (λ q. let u = old_number q.0 q.1 in row_from u.0 u.1 (rw (sym u.2) at q.2))
+        (λ q. insert_from q.0 q.1 q.2 q.3 (ap key_of q.3))
         (next→ g s C x m)
       where
         row_from : (u : ℕ) → u < length g.rows → Memᴰ x (row_after s C (row_at g u)) → From
         row_from u h k =
-            let c = key-stays s C (row_at g u) x k in
+            let c = key_stays s C (row_at g u) x k in
             elim (tri u i) [
               | less l ↦ let b = at.passed u l in absurd (omega arith)
-              | equal l ↦ a-row u (omega arith) h c k
-              | more l ↦ a-row u (omega arith) h c k
+              | equal l ↦ a_row u (omega arith) h c k
+              | more l ↦ a_row u (omega arith) h c k
             ]
 
-        insert-from : (r : Record) → Memᴰ r (applied C) → r.kind ≡ insert → x ≡ inserted_row s C r → x.key ≡ r.key → From
-        insert-from r k e p c = let l = at_most (New s lost) after next at.coming r.key (omega arith) (new-key r k e) in an-insert r k e p c l.0 l.1 l.2
+        insert_from : (r : Record) → Memᴰ r (applied C) → r.kind ≡ insert → x ≡ inserted_row s C r → x.key ≡ r.key → From
+        insert_from r k e p c = let l = at_most (New s lost) after next at.coming r.key (omega arith) (new_key r k e) in an_insert r k e p c l.0 l.1 l.2
 
   -- a row comes next
   module _ (i after : ℕ) (next : FirstKey) (at : At g s lost i after next) (h : i < length g.rows) (before : Later (row_at g i).key next) where
-    above-after : after < (row_at g i).key
-    above-after = at.to-come i (omega arith) h
+    above_after : after < (row_at g i).key
+    above_after = at.to_come i (omega arith) h
 
-    pub old-next : At g s lost (i + 1) (row_at g i).key next
-    old-next =
-        let a = above-after in
+    pub old_next : At g s lost (i + 1) (row_at g i).key next
+    old_next =
+        let a = above_after in
         record {
           passed = below_more _ i (λ u l. let b = at.passed u l in omega arith) (omega arith);
-          to-come = λ u l k. larger g sound_g i u (omega arith) k;
-          coming = still-coming (New s lost) after (row_at g i).key next (omega arith) before at.coming;
+          to_come = λ u l k. larger g sound_g i u (omega arith) k;
+          coming = still_coming (New s lost) after (row_at g i).key next (omega arith) before at.coming;
         }
 
-    old-from : (x : Row) (m : Memᴰ x (rows)) (a : after < x.key) → x.key ≤ (row_at g i).key → From i after next at x m a
+    old_from : (x : Row) (m : Memᴰ x (rows)) (a : after < x.key) → x.key ≤ (row_at g i).key → From i after next at x m a
         → Memᴰ x (row_after s C (row_at g i))
-    old-from x m a b (a-row u l k c q) =
+    old_from x m a b (a_row u l k c q) =
         elim (tri i u) [
           | less j ↦ let d = larger g sound_g i u j k in absurd (omega arith)
           | equal j ↦ rw (sym j) at q
           | more j ↦ absurd (omega arith)
         ]
-    old-from x m a b (an-insert r k e p c j q l) = let d : (row_at g i).key < j = rw q at before in absurd (omega arith)
+    old_from x m a b (an_insert r k e p c j q l) = let d : (row_at g i).key < j = rw q at before in absurd (omega arith)
 
-    pub old-written : up_to (row_at g i).key (rows) ≡ up_to after (rows) ++ row_after s C (row_at g i)
-    old-written =
-        let a = above-after in
-        up_to-more after (row_at g i).key (row_after s C (row_at g i)) (next-rising g s C chosen sound_g sound_s) (omega arith) (after-rising (row_at g i))
+    pub old_written : up_to (row_at g i).key (rows) ≡ up_to after (rows) ++ row_after s C (row_at g i)
+    old_written =
+        let a = above_after in
+        up_to_more after (row_at g i).key (row_after s C (row_at g i)) (next_rising g s C chosen sound_g sound_s) (omega arith) (after_rising (row_at g i))
         (λ x m.
-        let c = key-stays s C (row_at g i) x m in
-        record { in_list = →next-old g s C (row_at g i) x (old-in i h) m; above = omega arith; within = omega arith })
-        (λ x p. old-from x p.in_list p.above p.within (from i after next at x p.in_list p.above))
+        let c = key_stays s C (row_at g i) x m in
+        record { in_list = →next_old g s C (row_at g i) x (old_in i h) m; above = omega arith; within = omega arith })
+        (λ x p. old_from x p.in_list p.above p.within (from i after next at x p.in_list p.above))
 
   -- an insert comes next
   module _ (i after key : ℕ) (at : At g s lost i after (Key key)) (before : i < length g.rows → key ≤ (row_at g i).key) where
     -- no old row has the key
-    no-row : (u : ℕ) → u < length g.rows → (row_at g u).key ≡ key → ⊥
-    no-row u h e =
-        let r = new-record key at.coming.holds in
-        insert-absent g s C chosen r.0 r.1 r.2 (row_at g u) (old-in u h) (e ∙ sym r.3)
+    no_row_lem : (u : ℕ) → u < length g.rows → (row_at g u).key ≡ key → ⊥
+    no_row_lem u h e =
+        let r = new_record key at.coming.holds in
+        insert_absent g s C chosen r.0 r.1 r.2 (row_at g u) (old_in u h) (e ∙ sym r.3)
 
-    above-key : (u : ℕ) → i ≤ u → u < length g.rows → key < (row_at g u).key
-    above-key u l h =
-        let d = no-row u h in
+    above_key : (u : ℕ) → i ≤ u → u < length g.rows → key < (row_at g u).key
+    above_key u l h =
+        let d = no_row_lem u h in
         let b = before (omega arith) in
         elim (tri i u) [
           | less j ↦ let c = larger g sound_g i u j h in omega arith
@@ -244,60 +244,60 @@ module _ (g : Register) (s : Sheet) (lost : List ℕ) (sound_g : sound_register 
           | more j ↦ absurd (omega arith)
         ]
 
-    pub insert-next : (next : FirstKey) → LeastAbove (New s lost) key next → At g s lost i key next
-    insert-next next c =
+    pub insert_next : (next : FirstKey) → LeastAbove (New s lost) key next → At g s lost i key next
+    insert_next next c =
         let a = at.coming.above in
-        record { passed = λ u l. let b = at.passed u l in omega arith; to-come = above-key; coming = c }
+        record { passed = λ u l. let b = at.passed u l in omega arith; to_come = above_key; coming = c }
 
-    pub insert-record : (r : Record) × (applied_to (applied C) key ≡ some r)
+    pub insert_record : (r : Record) × (applied_to (applied C) key ≡ some r)
         × (up_to key (rows) ≡ up_to after (rows) ++ inserted_row s C r ∷ [])
     unfolding inserted_row
-    insert-record =
-        let r = new-record key at.coming.holds in
+    insert_record =
+        let r = new_record key at.coming.holds in
         let a = at.coming.above in
         let c = r.3 in
-        let is : applied_to (applied C) key ≡ some r.0 = ap (applied_to (applied C)) (sym c) ∙ applied_to-is (applied C) r.0 (applied-each g s C chosen sound_s) r.1 in (
+        let is : applied_to (applied C) key ≡ some r.0 = ap (applied_to (applied C)) (sym c) ∙ applied_to_is (applied C) r.0 (applied_each g s C chosen sound_s) r.1 in (
           r.0,
           is,
-          up_to-more after key (inserted_row s C r.0 ∷ []) (next-rising g s C chosen sound_g sound_s) (omega arith) (cons (λ y m. absurd (Memᴰ.not-nil m)) nil)
+          up_to_more after key (inserted_row s C r.0 ∷ []) (next_rising g s C chosen sound_g sound_s) (omega arith) (cons (λ y m. absurd (Memᴰ.not-nil m)) nil)
               (λ x m.
               let e = Memᴰ.eq_of_singleton m in
               let k = ap key_of e in
-              record { in_list = Memᴰ.cast e (→next-insert g s C r.0 r.1 r.2); above = omega arith; within = omega arith })
-              (λ x p. Memᴰ.head (insert-from r.0 is x p.in_list p.above p.within (from i after (Key key) at x p.in_list p.above))),
+              record { in_list = Memᴰ.cast e (→next_insert g s C r.0 r.1 r.2); above = omega arith; within = omega arith })
+              (λ x p. Memᴰ.head (insert_from r.0 is x p.in_list p.above p.within (from i after (Key key) at x p.in_list p.above))),
         )
       where
         key_or0 : FirstKey → ℕ
         key_or0 (Key k) = k
         key_or0 None = 0
 
-        insert-from : (r : Record) → applied_to (applied C) key ≡ some r → (x : Row) (m : Memᴰ x (rows)) (a : after < x.key) → x.key ≤ key → From i after (Key key) at x m a
+        insert_from : (r : Record) → applied_to (applied C) key ≡ some r → (x : Row) (m : Memᴰ x (rows)) (a : after < x.key) → x.key ≤ key → From i after (Key key) at x m a
             → x ≡ inserted_row s C r
-        insert-from r is x m a b (a-row u l k c q) = let d = above-key u l k in absurd (omega arith)
-        insert-from r is x m a b (an-insert q k e p c j z l) =
+        insert_from r is x m a b (a_row u l k c q) = let d = above_key u l k in absurd (omega arith)
+        insert_from r is x m a b (an_insert q k e p c j z l) =
             let d : key ≡ j = ap key_or0 z in
             let same : q.key ≡ key = omega arith in
             p ∙ ap (inserted_row s C)
-            (some-injective q r (sym (applied_to-is (applied C) q (applied-each g s C chosen sound_s) k) ∙ ap (applied_to (applied C)) same ∙ is))
+            (some-injective q r (sym (applied_to_is (applied C) q (applied_each g s C chosen sound_s) k) ∙ ap (applied_to (applied C)) same ∙ is))
 
-  pub at-start : (next : FirstKey) → LeastAbove (New s lost) 0 next → At g s lost 0 0 next
-  at-start next c =
+  pub at_start : (next : FirstKey) → LeastAbove (New s lost) 0 next → At g s lost 0 0 next
+  at_start next c =
       record {
         passed = λ u l. absurd (omega arith);
-        to-come = λ u l k. (rising→ key_of 0 g.rows (sound_register→ g sound_g).keys).1 (row_at g u) (old-in u k);
+        to_come = λ u l k. (rising→ key_of 0 g.rows (sound_register→ g sound_g).keys).1 (row_at g u) (old_in u k);
         coming = c;
       }
 
   pub none_written : up_to 0 (rows) ≡ []
-  none_written = up_to-none (next-rising g s C chosen sound_g sound_s) (next-above g s C chosen sound_g sound_s)
+  none_written = up_to_none (next_rising g s C chosen sound_g sound_s) (next_above g s C chosen sound_g sound_s)
 
-  pub all-written : (i after : ℕ) → At g s lost i after None → length g.rows ≤ i → up_to after (rows) ≡ rows
-  all-written i after at h = up_to-all after (next-rising g s C chosen sound_g sound_s) (λ x m a. go x m a (from i after None at x m a))
+  pub all_written : (i after : ℕ) → At g s lost i after None → length g.rows ≤ i → up_to after (rows) ≡ rows
+  all_written i after at h = up_to_all after (next_rising g s C chosen sound_g sound_s) (λ x m a. go x m a (from i after None at x m a))
     where
       is_key : FirstKey → Bool
       is_key (Key k) = true
       is_key None = false
 
       go : (x : Row) (m : Memᴰ x (rows)) (a : after < x.key) → From i after None at x m a → ⊥
-      go x m a (a-row u l k c q) = omega arith
-      go x m a (an-insert r k e p c j z l) = true≢false (sym (ap is_key z))
+      go x m a (a_row u l k c q) = omega arith
+      go x m a (an_insert r k e p c j z l) = true≢false (sym (ap is_key z))

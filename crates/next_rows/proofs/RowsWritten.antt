@@ -12,18 +12,18 @@ use Rattle.rules.specs.declared.row.Record.{Record}
 use Rattle.rules.specs.Register.{sound_register, register_in}
 use Rattle.rules.specs.Sheet.{sound_sheet, sheet_in}
 use Rattle.rules.specs.Becoming.{applied, applied_to, inserted_row}
-use Rattle.laws.specs.RegisterLaws.{register-sound}
-use Rattle.laws.specs.SheetLaws.{sheet-sound}
+use Rattle.laws.specs.RegisterLaws.{register_sound}
+use Rattle.laws.specs.SheetLaws.{sheet_sound}
 use Rattle.registers.specs.declared.writing.Draft.{Draft}
 use Rattle.registers.specs.RegisterReadings.{row_at}
 use Rattle.registers.specs.RegisterWriting.{RowsFit, RowsAdded}
-use Rattle.registers.specs.RegisterWritten.{none-added, then-added, fits_on, fits-fewer}
+use Rattle.registers.specs.RegisterWritten.{none_added, then_added, fits_on, fits_fewer}
 use Rattle.judging.specs.declared.key.FirstKey.{FirstKey}
 use Rattle.judging.specs.declared.key.FirstKey.TheVariants.{Key, None}
 use Rattle.judging.specs.Tables.{committed_in}
 use Rattle.judging.specs.Judged.{LeastAbove}
 use Rattle.next_rows.specs.NextRow.{Committing, rows_next, inserted_rows, becomes, Later}
-use Rattle.next_rows.proofs.NextWritten.{up_to, up_to-length, New, At, old-next, old-written, insert-next, insert-record, at-start, none_written, all-written}
+use Rattle.next_rows.proofs.NextWritten.{up_to, up_to_length, New, At, old_next, old_written, insert_next, insert_record, at_start, none_written, all_written}
 
 -- the next rows up to a key
 abbrev rows_to : Bytes → Bytes → List ℕ → ℕ → List Row
@@ -41,8 +41,8 @@ abbrev pub keys_left : FirstKey → ℕ
 keys_left None = 0
 keys_left (Key k) = 4294967296 - k
 
-pub keys-fall : (P : ℕ → Type 0) (key : ℕ) {this : FirstKey} (next : FirstKey) → this ≡ Key key → key < 4294967296 → LeastAbove P key next → keys_left next < keys_left this
-keys-fall P key next e h l = rw e (go next l)
+pub keys_fall : (P : ℕ → Type 0) (key : ℕ) {this : FirstKey} (next : FirstKey) → this ≡ Key key → key < 4294967296 → LeastAbove P key next → keys_left next < keys_left this
+keys_fall P key next e h l = rw e (go next l)
   where
     go : (next : FirstKey) → LeastAbove P key next → keys_left next < 4294967296 - key
     go None l = omega arith
@@ -52,18 +52,18 @@ keys-fall P key next e h l = rw e (go next l)
 module _ (register sheet : Bytes) (lost : List ℕ) (j : Committing register sheet lost)
     (d₀ : Draft) (l₀ : Bytes) (fit : RowsFit d₀ (length (rows_next register sheet lost)) l₀) where
   sound_g : sound_register (register_in register) ≡ true
-  sound_g = register-sound register j.is-register
+  sound_g = register_sound register j.is_register_lem
 
   sound_s : sound_sheet (sheet_in sheet) ≡ true
-  sound_s = sheet-sound sheet j.is-sheet
+  sound_s = sheet_sound sheet j.is-sheet
 
-  pub standing-start : (next : FirstKey) → LeastAbove (New (sheet_in sheet) lost) 0 next → Standing register sheet lost d₀ l₀ 0 next d₀ l₀
-  standing-start next c =
+  pub standing_start : (next : FirstKey) → LeastAbove (New (sheet_in sheet) lost) 0 next → Standing register sheet lost d₀ l₀ 0 next d₀ l₀
+  standing_start next c =
       record {
         after = 0;
-        at = at-start (register_in register) (sheet_in sheet) lost sound_g sound_s j.chosen next c;
+        at = at_start (register_in register) (sheet_in sheet) lost sound_g sound_s j.chosen next c;
         within = omega arith;
-        added = rw (none_written (register_in register) (sheet_in sheet) lost sound_g sound_s j.chosen) none-added;
+        added = rw (none_written (register_in register) (sheet_in sheet) lost sound_g sound_s j.chosen) none_added;
       }
 
   module _ {d : Draft} {l : Bytes} {i : ℕ} {next : FirstKey} (st : Standing register sheet lost d₀ l₀ i next d l) where
@@ -71,25 +71,25 @@ module _ (register sheet : Bytes) (lost : List ℕ) (j : Committing register she
     room : (k after : ℕ) → length (rows_to register sheet lost after) ≡ length (rows_to register sheet lost st.after) + k → RowsFit d k l
     room k after e =
         fits_on st.added k
-        (fits-fewer (length (rows_to register sheet lost st.after) + k) _ (omega (arith, e, up_to-length after (rows_next register sheet lost))) fit)
+        (fits_fewer (length (rows_to register sheet lost st.after) + k) _ (omega (arith, e, up_to_length after (rows_next register sheet lost))) fit)
 
     -- a row is next
     module _ (h : i < length (register_in register).rows) (before : Later (row_at (register_in register) i).key next) where
-      old-rows : rows_to register sheet lost (row_at (register_in register) i).key ≡ rows_to register sheet lost st.after ++ becomes register sheet lost i
-      old-rows = old-written (register_in register) (sheet_in sheet) lost sound_g sound_s j.chosen i st.after next st.at h before
+      old_rows : rows_to register sheet lost (row_at (register_in register) i).key ≡ rows_to register sheet lost st.after ++ becomes register sheet lost i
+      old_rows = old_written (register_in register) (sheet_in sheet) lost sound_g sound_s j.chosen i st.after next st.at h before
 
-      pub old-room : RowsFit d (length (becomes register sheet lost i)) l
-      old-room =
+      pub old_room : RowsFit d (length (becomes register sheet lost i)) l
+      old_room =
           room (length (becomes register sheet lost i)) (row_at (register_in register) i).key
-          (ap length old-rows ∙ length-append (rows_to register sheet lost st.after) (becomes register sheet lost i))
+          (ap length old_rows ∙ length-append (rows_to register sheet lost st.after) (becomes register sheet lost i))
 
-      pub standing-old : {e : Draft} {m : Bytes} → RowsAdded (becomes register sheet lost i) d l e m → Standing register sheet lost d₀ l₀ (i + 1) next e m
-      standing-old p =
+      pub standing_old : {e : Draft} {m : Bytes} → RowsAdded (becomes register sheet lost i) d l e m → Standing register sheet lost d₀ l₀ (i + 1) next e m
+      standing_old p =
           record {
             after = (row_at (register_in register) i).key;
-            at = old-next (register_in register) (sheet_in sheet) lost sound_g sound_s j.chosen i st.after next st.at h before;
+            at = old_next (register_in register) (sheet_in sheet) lost sound_g sound_s j.chosen i st.after next st.at h before;
             within = omega arith;
-            added = rw old-rows (then-added st.added p);
+            added = rw old_rows (then_added st.added p);
           }
 
   -- an insert is next
@@ -100,26 +100,26 @@ module _ (register sheet : Bytes) (lost : List ℕ) (j : Committing register she
 
     is-next : (r : Record) × (applied_to (applied (committed_in (sheet_in sheet) lost)) key ≡ some r)
         × (rows_to register sheet lost key ≡ rows_to register sheet lost st.after ++ inserted_row (sheet_in sheet) (committed_in (sheet_in sheet) lost) r ∷ [])
-    is-next = insert-record (register_in register) (sheet_in sheet) lost sound_g sound_s j.chosen i st.after key st.at is.1
+    is-next = insert_record (register_in register) (sheet_in sheet) lost sound_g sound_s j.chosen i st.after key st.at is.1
 
-    pub insert-room : RowsFit d 1 l
-    insert-room =
+    pub insert_room : RowsFit d 1 l
+    insert_room =
         room st 1 key (ap length is-next.2 ∙ length-append (rows_to register sheet lost st.after) (inserted_row (sheet_in sheet) (committed_in (sheet_in sheet) lost) is-next.0 ∷ []))
 
-    pub standing-insert : {e : Draft} {m : Bytes} (next : FirstKey)
+    pub standing_insert : {e : Draft} {m : Bytes} (next : FirstKey)
         → RowsAdded (inserted_rows (sheet_in sheet) (committed_in (sheet_in sheet) lost) key) d l e m
         → LeastAbove (New (sheet_in sheet) lost) key next → Standing register sheet lost d₀ l₀ i next e m
-    standing-insert next p c =
+    standing_insert next p c =
         let r = is-next in
         record {
           after = key;
-          at = insert-next (register_in register) (sheet_in sheet) lost sound_g sound_s j.chosen i st.after key st.at is.1 next c;
+          at = insert_next (register_in register) (sheet_in sheet) lost sound_g sound_s j.chosen i st.after key st.at is.1 next c;
           within = st.within;
-          added = rw r.2 (then-added st.added (rw r.1 at p));
+          added = rw r.2 (then_added st.added (rw r.1 at p));
         }
 
-  pub standing-end : {d : Draft} {l : Bytes} {i : ℕ} {this : FirstKey} → Standing register sheet lost d₀ l₀ i this d l → (this ≡ None) × (length (register_in register).rows ≤ i)
+  pub standing_end : {d : Draft} {l : Bytes} {i : ℕ} {this : FirstKey} → Standing register sheet lost d₀ l₀ i this d l → (this ≡ None) × (length (register_in register).rows ≤ i)
       → RowsAdded (rows_next register sheet lost) d₀ l₀ d l
-  standing-end {d} {l} {i} stands is =
+  standing_end {d} {l} {i} stands is =
       let st : Standing register sheet lost d₀ l₀ i None d l = rw is.0 at stands in
-      rw (all-written (register_in register) (sheet_in sheet) lost sound_g sound_s j.chosen i st.after st.at is.1) at st.added
+      rw (all_written (register_in register) (sheet_in sheet) lost sound_g sound_s j.chosen i st.after st.at is.1) at st.added

@@ -21,9 +21,9 @@ use Rattle.next_rows.specs.declared.rows.Turn.TheVariants.{Old, Insert, End}
 
 -- the bytes are a register and a sheet, and the sets that commit by the table are rightly chosen, by whatever rule
 pub record Committing (register sheet : Bytes) (lost : List ℕ) : Type 0 where
-  pub is-register : is_register register ≡ true
+  pub is_register_lem : is_register register ≡ true
   pub is-sheet : is_sheet sheet ≡ true
-  pub lost-places : length lost ≡ max_sets
+  pub lost_places : length lost ≡ max_sets
   pub chosen : Choice (register_in register) (sheet_in sheet) (committed_in (sheet_in sheet) lost)
 
 -- the next rows, by the sets that commit by the table

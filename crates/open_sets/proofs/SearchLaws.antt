@@ -53,14 +53,14 @@ module _ (n : ℕ) (b : Bytes) (i key : ℕ) where
       let e : records_before key (from n b i) ≡ 0 = ap (records_before key) (one_more n b i h) ∙ simp (lt-ltb key (word 4 b (16 * i + 4)) l) in
       omega (arith, inv, e)
 
-  pub comes-later : records_before key (records_in n b 0) ≡ i + records_before key (from n b i) → i < n → word 4 b (16 * i + 4) ≤ key → records_before key (records_in n b 0) ≡ i + 1 + records_before key (from n b (i + 1))
+  pub comes_later : records_before key (records_in n b 0) ≡ i + records_before key (from n b i) → i < n → word 4 b (16 * i + 4) ≤ key → records_before key (records_in n b 0) ≡ i + 1 + records_before key (from n b (i + 1))
   unfolding records_before record_in
-  comes-later inv h l =
+  comes_later inv h l =
       let e : records_before key (from n b i) ≡ suc (records_before key (from n b (i + 1))) = ap (records_before key) (one_more n b i h) ∙ simp (le-ltb key (word 4 b (16 * i + 4)) l) in
       omega (arith, inv, e)
 
-  pub stands-last : records_before key (records_in n b 0) ≡ i + records_before key (from n b i) → i ≤ n → n ≤ i → n ≡ records_before key (records_in n b 0)
+  pub stands_last : records_before key (records_in n b 0) ≡ i + records_before key (from n b i) → i ≤ n → n ≤ i → n ≡ records_before key (records_in n b 0)
   unfolding records_before
-  stands-last inv h l =
+  stands_last inv h l =
       let e : records_before key (from n b i) ≡ 0 = ap (records_before key) (no_more n b i l) in
       omega (arith, inv, e)

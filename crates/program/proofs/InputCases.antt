@@ -12,11 +12,11 @@ use Rattle.rules.specs.Register.{is_register}
 use Rattle.rules.specs.Sheet.{is_sheet}
 use Rattle.input.specs.Reading.{Holds, Early, RegisterIn, SheetsIn}
 
-pub register-held : {x : Extent} {b : Bytes} (n : ℕ) → RegisterIn x b → x ≡ Of n → Holds is_register b n
-register-held n p e = rw e at p
+pub register_held : {x : Extent} {b : Bytes} (n : ℕ) → RegisterIn x b → x ≡ Of n → Holds is_register b n
+register_held n p e = rw e at p
 
-pub sheets-held : {a : Answer} {b : Bytes} (n : ℕ) → SheetsIn a b → a ≡ Wrote n → Holds is_sheet b n
-sheets-held n p e = rw e at p
+pub sheets_held : {a : Answer} {b : Bytes} (n : ℕ) → SheetsIn a b → a ≡ Wrote n → Holds is_sheet b n
+sheets_held n p e = rw e at p
 
-pub sheets-refused : {a : Answer} (b : Bytes) (x : Refusal) → SheetsIn a b → a ≡ Refused x → Early (refusal_number x)
-sheets-refused b x p e = rw e at p
+pub sheets_refused : {a : Answer} (b : Bytes) (x : Refusal) → SheetsIn a b → a ≡ Refused x → Early (refusal_number x)
+sheets_refused b x p e = rw e at p

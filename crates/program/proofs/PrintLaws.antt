@@ -20,17 +20,17 @@ use Rattle.rules.specs.Answers.{refusal_number, closed_numbers}
 use Rattle.rules.specs.Refused.{Closing, closing, register_room, verdict_room, verdict_bytes, close_outcome}
 use Rattle.rules.specs.Promises.{ClosePromise}
 use Rattle.rules.specs.Applies.{bad_register, bad_sheet, wrong_epoch, too_many_rows, applies}
-use Rattle.laws.specs.RegisterLaws.{register-decoded, register-is, register-sound}
-use Rattle.laws.specs.NextSound.{next-sound}
-use Rattle.laws.specs.Exactly.{close-exactly}
-use Rattle.laws.specs.Kept.{numbered, kept-done-closing, kept-refused-closing, kept-wrote-closing}
-use Rattle.laws.specs.SheetLaws.{sheet-sound}
-use Rattle.laws.specs.VerdictLength.{verdicts-long}
+use Rattle.laws.specs.RegisterLaws.{register_decoded, register_is, register_sound}
+use Rattle.laws.specs.NextSound.{next_sound}
+use Rattle.laws.specs.Exactly.{close_exactly}
+use Rattle.laws.specs.Kept.{numbered, kept_done_closing, kept_refused_closing, kept_wrote_closing}
+use Rattle.laws.specs.SheetLaws.{sheet_sound}
+use Rattle.laws.specs.VerdictLength.{verdicts_long}
 use Rattle.report.specs.Report.{Put, report, refused_text}
 use Rattle.forms.specs.VerdictForm.{verdicts_length, verdicts_in}
-use Rattle.forms.specs.VerdictsBack.{verdicts-at}
+use Rattle.forms.specs.VerdictsBack.{verdicts_at}
 use Rattle.program.specs.Printed.{text_of, closed_text}
-use Rattle.program.proofs.SmallKeys.{verdicts-small}
+use Rattle.program.proofs.SmallKeys.{verdicts_small}
 
 -- of a closing that wrote n bytes of the next register into a, and the verdicts into b
 pub record Written (r t a b : Bytes) (n : ℕ) : Type 0 where
@@ -41,43 +41,43 @@ pub record Written (r t a b : Bytes) (n : ℕ) : Type 0 where
   pub text : report (register_in (take n a)) (map csn_of (sheet_in t).sets) (verdicts_in (length (sheet_in t).sets) b 0) ≡ closed_text r t
 
 module _ (g : Register) (s : Sheet) where
-  verdicts-back : sound_sheet s ≡ true → (b rest : Bytes) → b ≡ flat verdict_bytes (verdicts g s) ++ rest → verdicts_in (length s.sets) b 0 ≡ verdicts g s
+  verdicts_back : sound_sheet s ≡ true → (b rest : Bytes) → b ≡ flat verdict_bytes (verdicts g s) ++ rest → verdicts_in (length s.sets) b 0 ≡ verdicts g s
   unfolding verdicts
-  verdicts-back e b rest p = ap (λ (n : ℕ). verdicts_in n b 0) (sym (length-map s.sets (verdict g s))) ∙ verdicts-at (verdicts g s) b 0 rest (verdicts-small g s e) p
+  verdicts_back e b rest p = ap (λ (n : ℕ). verdicts_in n b 0) (sym (length-map s.sets (verdict g s))) ∙ verdicts_at (verdicts g s) b 0 rest (verdicts_small g s e) p
 
 module _ (r t a₀ b₀ : Bytes) where
-  pub closed-written : {a b : Bytes} {x : Closed} (n m : ℕ) → length a₀ ≡ register_room → length b₀ ≡ verdict_room
+  pub closed_written : {a b : Bytes} {x : Closed} (n m : ℕ) → length a₀ ≡ register_room → length b₀ ≡ verdict_room
       → ClosePromise (close_outcome r t (length a₀) (length b₀)) a₀ b₀ x a b → x ≡ closed.Wrote n m → Written r t a b n
   unfolding closing next applies bad_register bad_sheet wrong_epoch too_many_rows
-  closed-written {a} {b} n m la lb p e =
+  closed_written {a} {b} n m la lb p e =
       let o = close_outcome r t register_room verdict_room in
       let k : ClosePromise o a₀ b₀ (closed.Wrote n m) a b = rw (la, lb, e) at p in
-      let x = close-exactly r t register_room verdict_room in
-      let d = kept-done-closing o (numbered x) k in
-      let w = x.only-else _ d in
+      let x = close_exactly r t register_room verdict_room in
+      let d = kept_done_closing o (numbered x) k in
+      let w = x.only_else _ d in
       let g = register_in r in
       let s = sheet_in t in
       let is-sheet = not-false (is_sheet t) (w.0 SheetIllFormed) in
-      let sound_s = sheet-sound t is-sheet in
-      let sound_g = register-sound r (not-false (is_register r) (w.0 RegisterIllFormed)) in
-      let sound = next-sound g s sound_g sound_s (eqb-true _ _ (not-false _ (w.0 WrongEpoch))) (ltb-false _ _ (w.0 TooManyRows)) in
+      let sound_s = sheet_sound t is-sheet in
+      let sound_g = register_sound r (not-false (is_register r) (w.0 RegisterIllFormed)) in
+      let sound = next_sound g s sound_g sound_s (eqb-true _ _ (not-false _ (w.0 WrongEpoch))) (ltb-false _ _ (w.0 TooManyRows)) in
       let front : take n a ≡ register_bytes (next g s) = ap (λ (c : Closing). c.register) w.1 in
       let vb : take m b ≡ flat verdict_bytes (verdicts g s) = ap (λ (c : Closing). c.verdicts) w.1 in
-      let vs = verdicts-back g s sound_s b (drop m b) (sym (take-append-drop m b) ∙ ap (λ (l : Bytes). l ++ drop m b) vb) in
+      let vs = verdicts_back g s sound_s b (drop m b) (sym (take-append-drop m b) ∙ ap (λ (l : Bytes). l ++ drop m b) vb) in
       let printed : closed_text r t ≡ report (next g s) (map csn_of s.sets) (verdicts g s) = unfold closed_text text_of in ap (text_of g s) d in
       record {
         is-sheet = is-sheet;
-        is-next = ap is_register front ∙ register-is (next g s) sound;
-        within = omega (arith, ap (λ (y : Closed). (closed_numbers y).1) (kept-wrote-closing o d k).0, length-take n a);
-        enough = omega (arith, ap length vb, verdicts-long g s, length-take m b);
-        text = rw (front, register-decoded (next g s) sound, vs) (sym printed);
+        is-next = ap is_register front ∙ register_is (next g s) sound;
+        within = omega (arith, ap (λ (y : Closed). (closed_numbers y).1) (kept_wrote_closing o d k).0, length-take n a);
+        enough = omega (arith, ap length vb, verdicts_long g s, length-take m b);
+        text = rw (front, register_decoded (next g s) sound, vs) (sym printed);
       }
 
   -- a refusal prints its number
-  pub refused-text : {a b : Bytes} {x : Closed} (y : Refusal) → length a₀ ≡ register_room → length b₀ ≡ verdict_room
+  pub refused_text_lem : {a b : Bytes} {x : Closed} (y : Refusal) → length a₀ ≡ register_room → length b₀ ≡ verdict_room
       → ClosePromise (close_outcome r t (length a₀) (length b₀)) a₀ b₀ x a b → x ≡ closed.Refused y → refused_text (refusal_number y) ≡ closed_text r t
   unfolding closed_text text_of
-  refused-text y la lb p e = sym (ap (text_of (register_in r) (sheet_in t)) (kept-refused-closing (close_outcome r t register_room verdict_room) (rw (la, lb, e) at p)).0)
+  refused_text_lem y la lb p e = sym (ap (text_of (register_in r) (sheet_in t)) (kept_refused_closing (close_outcome r t register_room verdict_room) (rw (la, lb, e) at p)).0)
 
 -- the same of an equal text
 pub put_as : {xs ys l₀ l₁ : Bytes} {at r : ℕ} → xs ≡ ys → Put xs l₀ at l₁ r → Put ys l₀ at l₁ r

@@ -14,28 +14,28 @@ use Rattle.rules.specs.Closing.{first_wrong, first_lost, judged, verdict, verdic
 use Rattle.laws.specs.Tests.{left, right}
 use Rattle.laws.specs.FormLaws.{fits→}
 use Rattle.laws.specs.ListLaws.{all→, first→}
-use Rattle.laws.specs.Commits.{set-records}
+use Rattle.laws.specs.Commits.{set_records}
 use Rattle.forms.specs.VerdictsBack.{Small}
 
-judged-small : (a b : Option Record) → ((r : Record) → a ≡ some r → r.key < 256 ^ 4) → ((r : Record) → b ≡ some r → r.key < 256 ^ 4) → Small (judged a b)
+judged_small : (a b : Option Record) → ((r : Record) → a ≡ some r → r.key < 256 ^ 4) → ((r : Record) → b ≡ some r → r.key < 256 ^ 4) → Small (judged a b)
 unfolding judged
-judged-small (some r) b f h = f r refl
-judged-small none (some r) f h = h r refl
-judged-small none none f h = lit< tt
+judged_small (some r) b f h = f r refl
+judged_small none (some r) f h = h r refl
+judged_small none none f h = lit< tt
 
 module _ (g : Register) (s : Sheet) (sound : sound_sheet s ≡ true) where
-  record-small : (w : WriteSet) → Memᴰ w s.sets → (r : Record) → Memᴰ r w.records → r.key < 256 ^ 4
+  record_small : (w : WriteSet) → Memᴰ w s.sets → (r : Record) → Memᴰ r w.records → r.key < 256 ^ 4
   unfolding sound_records sound_record
-  record-small w m r k =
-      let e = right _ _ (right _ _ (right _ _ (set-records s w sound m))) in fits→ 4 _ (left _ _ (right _ _ (all→ sound_record e k)))
+  record_small w m r k =
+      let e = right _ _ (right _ _ (right _ _ (set_records s w sound m))) in fits→ 4 _ (left _ _ (right _ _ (all→ sound_record e k)))
 
-  verdict-small : (w : WriteSet) → Memᴰ w s.sets → Small (verdict g s w)
+  verdict_small : (w : WriteSet) → Memᴰ w s.sets → Small (verdict g s w)
   unfolding verdict first_wrong first_lost
-  verdict-small w m =
-      judged-small (first_wrong g w) (first_lost g s w)
-      (λ r e. record-small w m r (first→ _ w.records e).0)
-      (λ r e. record-small w m r (first→ _ w.records e).0)
+  verdict_small w m =
+      judged_small (first_wrong g w) (first_lost g s w)
+      (λ r e. record_small w m r (first→ _ w.records e).0)
+      (λ r e. record_small w m r (first→ _ w.records e).0)
 
-  pub verdicts-small : (v : Verdict) → Memᴰ v (verdicts g s) → Small v
+  pub verdicts_small : (v : Verdict) → Memᴰ v (verdicts g s) → Small v
   unfolding verdicts
-  verdicts-small v m = let w = Memᴰ.of_map (verdict g s) s.sets m in rw w.2 at (verdict-small w.0 w.1)
+  verdicts_small v m = let w = Memᴰ.of_map (verdict g s) s.sets m in rw w.2 at (verdict_small w.0 w.1)

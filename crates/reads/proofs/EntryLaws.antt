@@ -17,21 +17,21 @@ use Rattle.reads.specs.declared.find.Found.TheVariants.{There, Absent}
 
 -- an entry whose row is there
 module _ (mode lsn : ℕ) (e : Read) (r : Row) where
-  pub same-csn : mode ≡ 2 → r.mark.csn ≡ e.csn → none ≡ fails_row mode lsn e r
+  pub same_csn : mode ≡ 2 → r.mark.csn ≡ e.csn → none ≡ fails_row mode lsn e r
   unfolding fails_row
-  same-csn h q = simp (eq-eqb mode 2 h, eq-eqb r.mark.csn e.csn q)
+  same_csn h q = simp (eq-eqb mode 2 h, eq-eqb r.mark.csn e.csn q)
 
-  pub other-csn : mode ≡ 2 → (r.mark.csn ≡ e.csn → ⊥) → some OtherCsn ≡ fails_row mode lsn e r
+  pub other_csn : mode ≡ 2 → (r.mark.csn ≡ e.csn → ⊥) → some OtherCsn ≡ fails_row mode lsn e r
   unfolding fails_row
-  other-csn h q = simp (eq-eqb mode 2 h, ne_eqb r.mark.csn e.csn q)
+  other_csn h q = simp (eq-eqb mode 2 h, ne_eqb r.mark.csn e.csn q)
 
-  pub too-new : (mode ≡ 2 → ⊥) → lsn + 1 < r.mark.cen → some TooNew ≡ fails_row mode lsn e r
+  pub too_new : (mode ≡ 2 → ⊥) → lsn + 1 < r.mark.cen → some TooNew ≡ fails_row mode lsn e r
   unfolding fails_row
-  too-new h q = simp (ne_eqb mode 2 h, lt-ltb (lsn + 1) r.mark.cen q)
+  too_new h q = simp (ne_eqb mode 2 h, lt-ltb (lsn + 1) r.mark.cen q)
 
-  pub old-enough : (mode ≡ 2 → ⊥) → r.mark.cen ≤ lsn + 1 → none ≡ fails_row mode lsn e r
+  pub old_enough : (mode ≡ 2 → ⊥) → r.mark.cen ≤ lsn + 1 → none ≡ fails_row mode lsn e r
   unfolding fails_row
-  old-enough h q = simp (ne_eqb mode 2 h, le-ltb (lsn + 1) r.mark.cen q)
+  old_enough h q = simp (ne_eqb mode 2 h, le-ltb (lsn + 1) r.mark.cen q)
 
 -- any entry
 module _ (g : Register) (mode lsn : ℕ) (e : Read) where
@@ -47,9 +47,9 @@ module _ (g : Register) (mode lsn : ℕ) (e : Read) where
   unfolding fails_found
   in_row h p q s = s ∙ ap (fails_found mode lsn e) (sym (ap row_of q) ∙ p) ∙ looked h
 
-  pub no-row : (mode ≡ 1 → ⊥) → {f : Found} → row_of f ≡ row_with g e.key → f ≡ Absent → some Gone ≡ failing g mode lsn e
+  pub no_row_lem : (mode ≡ 1 → ⊥) → {f : Found} → row_of f ≡ row_with g e.key → f ≡ Absent → some Gone ≡ failing g mode lsn e
   unfolding fails_found
-  no-row h p q = ap (fails_found mode lsn e) (sym (ap row_of q) ∙ p) ∙ looked h
+  no_row_lem h p q = ap (fails_found mode lsn e) (sym (ap row_of q) ∙ p) ∙ looked h
 
 -- an entry that stands changes nothing
 pub stands : (o : Outcome Finding) (i k : ℕ) → o ≡ and_entry o i k none

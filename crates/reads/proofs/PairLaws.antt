@@ -28,11 +28,11 @@ unpaired [] (c ∷ cs) h = refl
 unpaired (k ∷ ks) [] h = refl
 unpaired (k ∷ ks) (c ∷ cs) h = rw (unpaired ks cs (λ e. h (ap suc e)))
 
-pub entries-length : (ks cs : List ℕ) → length ks ≡ length cs → length (entries ks cs) ≡ length ks
+pub entries_length : (ks cs : List ℕ) → length ks ≡ length cs → length (entries ks cs) ≡ length ks
 unfolding entries
-entries-length [] cs h = refl
-entries-length (k ∷ ks) [] h = absurd (omega arith)
-entries-length (k ∷ ks) (c ∷ cs) h = ap suc (entries-length ks cs (omega arith))
+entries_length [] cs h = refl
+entries_length (k ∷ ks) [] h = absurd (omega arith)
+entries_length (k ∷ ks) (c ∷ cs) h = ap suc (entries_length ks cs (omega arith))
 
 pub entries_at : (ks cs : List ℕ) (i : ℕ) → length ks ≡ length cs → i < length ks → record { key = get_or ks i 0; csn = get_or cs i 0 } ≡ get_or (entries ks cs) i no_read
 unfolding entries
@@ -41,13 +41,13 @@ entries_at (k ∷ ks) [] i h l = absurd (omega arith)
 entries_at (k ∷ ks) (c ∷ cs) zero h l = refl
 entries_at (k ∷ ks) (c ∷ cs) (suc i) h l = entries_at ks cs i (omega arith) (omega arith)
 
-pub check-paired : (b : Bytes) (mode lsn : ℕ) (ks cs : List ℕ) → length ks ≡ length cs → check_outcome b mode lsn ks cs ≡ reads_outcome b mode lsn (entries ks cs)
+pub check_paired : (b : Bytes) (mode lsn : ℕ) (ks cs : List ℕ) → length ks ≡ length cs → check_outcome b mode lsn ks cs ≡ reads_outcome b mode lsn (entries ks cs)
 unfolding check_outcome reads_outcome
-check-paired b mode lsn ks cs h = rw (paired ks cs h)
+check_paired b mode lsn ks cs h = rw (paired ks cs h)
 
-pub check-unpaired : (b : Bytes) (mode lsn : ℕ) (ks cs : List ℕ) → (length ks ≡ length cs → ⊥) → check_outcome b mode lsn ks cs ≡ ill_formed (reads_outcome b mode lsn [])
+pub check_unpaired : (b : Bytes) (mode lsn : ℕ) (ks cs : List ℕ) → (length ks ≡ length cs → ⊥) → check_outcome b mode lsn ks cs ≡ ill_formed (reads_outcome b mode lsn [])
 unfolding check_outcome reads_outcome
-check-unpaired b mode lsn ks cs h = rw (unpaired ks cs h) (go (read_register b))
+check_unpaired b mode lsn ks cs h = rw (unpaired ks cs h) (go (read_register b))
   where
     fin : (t : Bool) (f : Finding) → refused 10 ≡ ill_formed (if t then refused 10 else done f)
     fin true f = refl

@@ -14,17 +14,17 @@ use Rattle.words.specs.Words.{Bytes}
 use Rattle.rules.specs.declared.row.Row.{Row}
 use Rattle.rules.specs.Lists.{first}
 use Rattle.rules.specs.Register.{Register, sound_register, register_in, is_register}
-use Rattle.laws.specs.RegisterLaws.{register-sound}
+use Rattle.laws.specs.RegisterLaws.{register_sound}
 use Rattle.registers.specs.RegisterReadings.{no_row, row_at}
 use Rattle.registers.specs.RowsRise.{larger}
 use Rattle.reads.specs.Steps.{row_with}
 
 module _ {A : Type 0} (p : A → Bool) (d : A) where
-  first-at : (xs : List A) (i : ℕ) → i < length xs → p (get_or xs i d) ≡ true → ((k : ℕ) → k < i → p (get_or xs k d) ≡ false) → first p xs ≡ some (get_or xs i d)
+  first_at : (xs : List A) (i : ℕ) → i < length xs → p (get_or xs i d) ≡ true → ((k : ℕ) → k < i → p (get_or xs k d) ≡ false) → first p xs ≡ some (get_or xs i d)
   unfolding first
-  first-at [] i l e h = absurd (omega arith)
-  first-at (x ∷ xs) zero l e h = rw e
-  first-at (x ∷ xs) (suc i) l e h = rw (h 0 (omega arith)) (first-at xs i (omega arith) e (λ k m. h (suc k) (omega arith)))
+  first_at [] i l e h = absurd (omega arith)
+  first_at (x ∷ xs) zero l e h = rw e
+  first_at (x ∷ xs) (suc i) l e h = rw (h 0 (omega arith)) (first_at xs i (omega arith) e (λ k m. h (suc k) (omega arith)))
 
   first_absent : (xs : List A) → ((k : ℕ) → k < length xs → p (get_or xs k d) ≡ false) → first p xs ≡ none
   unfolding first
@@ -46,11 +46,11 @@ beyond g s i j h l = go (leb j i) refl
 pub there : (b : Bytes) → is_register b ≡ true → (i key : ℕ) {r : Row} → i < length (register_in b).rows → (row_at (register_in b) i).key ≡ key → r ≡ row_at (register_in b) i → some r ≡ row_with (register_in b) key
 there b e i key h k q =
     let g = register_in b in
-    ap some q ∙ sym (at g i key h k (λ j l. larger g (register-sound b e) j i l h))
+    ap some q ∙ sym (at g i key h k (λ j l. larger g (register_sound b e) j i l h))
   where
     at : (g : Register) (i key : ℕ) → i < length g.rows → (row_at g i).key ≡ key → ((j : ℕ) → j < i → (row_at g j).key < (row_at g i).key) → row_with g key ≡ some (row_at g i)
     at g i key h k f =
-        unfold row_at in first-at (λ r. eqb r.key key) no_row g.rows i h (eq-eqb _ _ k) (λ j l. ne_eqb _ _ (λ (q : (get_or g.rows j no_row).key ≡ key). omega (arith, f j l)))
+        unfold row_at in first_at (λ r. eqb r.key key) no_row g.rows i h (eq-eqb _ _ k) (λ j l. ne_eqb _ _ (λ (q : (get_or g.rows j no_row).key ≡ key). omega (arith, f j l)))
 
 pub absent : (g : Register) (key : ℕ) → ((k : ℕ) → k < length g.rows → (row_at g k).key ≡ key → ⊥) → none ≡ row_with g key
 unfolding row_at

@@ -22,19 +22,19 @@ use Rattle.rules.specs.Refused.{Outcome, refused, done, max_reads, bad_check, ch
 use Rattle.rules.specs.Promises.{told_finding, CheckPromise}
 use Rattle.laws.specs.Tests.{both, or_right, or_left}
 use Rattle.laws.specs.Says.{is_le, ◌also◌}
-use Rattle.laws.specs.RegisterLaws.{register-read, register-unread}
+use Rattle.laws.specs.RegisterLaws.{register_read, register_unread}
 use Rattle.reads.specs.Steps.{outcome_of, is_refused, ill_formed, and_entry, with_entry, enough}
 
 -- ---- what is read of the bytes
 
-pub on-ill-formed : (b : Bytes) (mode lsn : ℕ) (es : List Read) → is_register b ≡ false → reads_outcome b mode lsn es ≡ refused 1
+pub on_ill_formed : (b : Bytes) (mode lsn : ℕ) (es : List Read) → is_register b ≡ false → reads_outcome b mode lsn es ≡ refused 1
 unfolding reads_outcome check_reads
-on-ill-formed b mode lsn es e = rw (register-unread b e)
+on_ill_formed b mode lsn es e = rw (register_unread b e)
 
-pub on-register : (b : Bytes) (mode lsn : ℕ) (es : List Read) → is_register b ≡ true
+pub on_register : (b : Bytes) (mode lsn : ℕ) (es : List Read) → is_register b ≡ true
     → reads_outcome b mode lsn es ≡ (if bad_check (register_in b) mode lsn es then refused 10 else done (check_from (register_in b) mode lsn 0 es))
 unfolding reads_outcome check_reads
-on-register b mode lsn es e = rw (register-read b e)
+on_register b mode lsn es e = rw (register_read b e)
 
 -- an outcome that is no refusal is one on a register
 pub register_of : (b : Bytes) (mode lsn : ℕ) (es : List Read) {o : Outcome Finding} → o ≡ reads_outcome b mode lsn es → is_refused o ≡ false → is_register b ≡ true
@@ -42,7 +42,7 @@ register_of b mode lsn es {o} p h = go (is_register b) refl
   where
     go : (t : Bool) → is_register b ≡ t → is_register b ≡ true
     go true e = e
-    go false e = absurd (true≢false (sym (ap is_refused (p ∙ on-ill-formed b mode lsn es e)) ∙ h))
+    go false e = absurd (true≢false (sym (ap is_refused (p ∙ on_ill_formed b mode lsn es e)) ∙ h))
 
 -- an answer keeps the promise of the outcome that it tells
 pub promised : (a : Checked) {o : Outcome Finding} → outcome_of a ≡ o → CheckPromise o a
@@ -56,22 +56,22 @@ promised a p = record { answered = tells a ∙ ap told_finding p }
 
 -- ---- one entry more
 
-any-more : {A : Type 0} (p : A → Bool) (xs : List A) (x : A) → any p (xs ++ x ∷ []) ≡ any p xs or p x
+any_more : {A : Type 0} (p : A → Bool) (xs : List A) (x : A) → any p (xs ++ x ∷ []) ≡ any p xs or p x
 unfolding any ◌or◌
-any-more p [] x = go (p x)
+any_more p [] x = go (p x)
   where
     go : (t : Bool) → t or false ≡ t
     go true = refl
     go false = refl
-any-more p (y ∷ ys) x = go (p y) (any-more p ys x)
+any_more p (y ∷ ys) x = go (p y) (any_more p ys x)
   where
     go : (t : Bool) → any p (ys ++ x ∷ []) ≡ any p ys or p x → t or any p (ys ++ x ∷ []) ≡ (t or any p ys) or p x
     go true h = refl
     go false h = h
 
-over-more : (n : ℕ) → ltb max_reads (n + 1) ≡ ltb max_reads n or leb max_reads n
+over_more : (n : ℕ) → ltb max_reads (n + 1) ≡ ltb max_reads n or leb max_reads n
 unfolding ◌or◌
-over-more n = go (leb max_reads n) refl
+over_more n = go (leb max_reads n) refl
   where
     go : (t : Bool) → leb max_reads n ≡ t → ltb max_reads (n + 1) ≡ ltb max_reads n or leb max_reads n
     go true e = lt-ltb max_reads (n + 1) (omega (arith, leb-true max_reads n e)) ∙ sym (or_right (ltb max_reads n) (leb max_reads n) e)
@@ -94,14 +94,14 @@ bad_more : (g : Register) (mode lsn : ℕ) (es : List Read) (e : Read)
     → bad_check g mode lsn (es ++ e ∷ []) ≡ bad_check g mode lsn es or (eqb e.key 0 or leb max_reads (length es))
 unfolding bad_check
 bad_more g mode lsn es e =
-    rw (any-more (λ (x : Read). eqb x.key 0) es e, length-append es (e ∷ []), over-more (length es))
+    rw (any_more (λ (x : Read). eqb x.key 0) es e, length-append es (e ∷ []), over_more (length es))
     (regrouped (not (leb 1 mode and leb mode snapshot_isolation)) (any (λ x. eqb x.key 0) es) (ltb max_reads (length es)) (ltb g.snapshot lsn) (eqb e.key 0) (leb max_reads (length es)))
 
-found-more : (g : Register) (mode lsn j : ℕ) (es : List Read) (e : Read)
+found_more : (g : Register) (mode lsn j : ℕ) (es : List Read) (e : Read)
     → done (check_from g mode lsn j (es ++ e ∷ [])) ≡ and_entry (done (check_from g mode lsn j es)) (j + length es) e.key (failing g mode lsn e)
 unfolding check_from finding_or
-found-more g mode lsn j [] e = ap (λ (i : ℕ). done (finding_or (failing g mode lsn e) i e.key passes)) (omega arith)
-found-more g mode lsn j (x ∷ xs) e = go (failing g mode lsn x) (found-more g mode lsn (suc j) xs e)
+found_more g mode lsn j [] e = ap (λ (i : ℕ). done (finding_or (failing g mode lsn e) i e.key passes)) (omega arith)
+found_more g mode lsn j (x ∷ xs) e = go (failing g mode lsn x) (found_more g mode lsn (suc j) xs e)
   where
     go : (o : Option Reason) → done (check_from g mode lsn (suc j) (xs ++ e ∷ [])) ≡ and_entry (done (check_from g mode lsn (suc j) xs)) (suc j + length xs) e.key (failing g mode lsn e)
         → done (finding_or o j x.key (check_from g mode lsn (suc j) (xs ++ e ∷ []))) ≡ and_entry (done (finding_or o j x.key (check_from g mode lsn (suc j) xs))) (j + suc (length xs)) e.key (failing g mode lsn e)
@@ -117,17 +117,17 @@ stays g mode lsn n i e = go (eqb e.key 0 or leb max_reads i)
     go true = refl
     go false = refl
 
-pub refusal-stays : (g : Register) (mode lsn : ℕ) (o : Outcome Finding) (i : ℕ) (e : Read) → is_refused o ≡ true → o ≡ with_entry g mode lsn o i e
-refusal-stays g mode lsn (refused n) i e h = sym (stays g mode lsn n i e)
-refusal-stays g mode lsn (done f) i e h = absurd (false≢true h)
+pub refusal_stays : (g : Register) (mode lsn : ℕ) (o : Outcome Finding) (i : ℕ) (e : Read) → is_refused o ≡ true → o ≡ with_entry g mode lsn o i e
+refusal_stays g mode lsn (refused n) i e h = sym (stays g mode lsn n i e)
+refusal_stays g mode lsn (done f) i e h = absurd (false≢true h)
 
-with-more : (g : Register) (mode lsn : ℕ) (es : List Read) (e : Read)
+with_more : (g : Register) (mode lsn : ℕ) (es : List Read) (e : Read)
     → (if bad_check g mode lsn (es ++ e ∷ []) then refused 10 else done (check_from g mode lsn 0 (es ++ e ∷ [])))
     ≡ with_entry g mode lsn (if bad_check g mode lsn es then refused 10 else done (check_from g mode lsn 0 es)) (length es) e
 unfolding with_entry
-with-more g mode lsn es e =
+with_more g mode lsn es e =
     rw (bad_more g mode lsn es e)
-    (go (bad_check g mode lsn es) (eqb e.key 0 or leb max_reads (length es)) (found-more g mode lsn 0 es e ∙ ap (λ (i : ℕ). and_entry (done (check_from g mode lsn 0 es)) i e.key (failing g mode lsn e)) (omega arith)))
+    (go (bad_check g mode lsn es) (eqb e.key 0 or leb max_reads (length es)) (found_more g mode lsn 0 es e ∙ ap (λ (i : ℕ). and_entry (done (check_from g mode lsn 0 es)) i e.key (failing g mode lsn e)) (omega arith)))
   where
     go : (s t : Bool) → done (check_from g mode lsn 0 (es ++ e ∷ [])) ≡ and_entry (done (check_from g mode lsn 0 es)) (length es) e.key (failing g mode lsn e)
         → (if s or t then refused 10 else done (check_from g mode lsn 0 (es ++ e ∷ [])))
@@ -139,13 +139,13 @@ with-more g mode lsn es e =
 
 -- an entry with key 0, one too many, and one that is judged
 module _ (g : Register) (mode lsn : ℕ) (o : Outcome Finding) (i : ℕ) (e : Read) where
-  pub bad-key : e.key ≡ 0 → with_entry g mode lsn o i e ≡ ill_formed o
+  pub bad_key : e.key ≡ 0 → with_entry g mode lsn o i e ≡ ill_formed o
   unfolding with_entry
-  bad-key h = rw (or_left (eqb e.key 0) (leb max_reads i) (eq-eqb e.key 0 h))
+  bad_key h = rw (or_left (eqb e.key 0) (leb max_reads i) (eq-eqb e.key 0 h))
 
-  pub one-too-many : 32 ≤ i → with_entry g mode lsn o i e ≡ ill_formed o
+  pub one_too_many : 32 ≤ i → with_entry g mode lsn o i e ≡ ill_formed o
   unfolding with_entry
-  one-too-many h = rw (or_right (eqb e.key 0) (leb max_reads i) (le-leb max_reads i h))
+  one_too_many h = rw (or_right (eqb e.key 0) (leb max_reads i) (le-leb max_reads i h))
 
   pub judged : (e.key ≡ 0 → ⊥) → i < 32 → with_entry g mode lsn o i e ≡ and_entry o i e.key (failing g mode lsn e)
   unfolding with_entry ◌or◌
@@ -156,17 +156,17 @@ more : (b : Bytes) (mode lsn : ℕ) (es : List Read) (e : Read) → reads_outcom
 more b mode lsn es e = go (is_register b) refl
   where
     go : (t : Bool) → is_register b ≡ t → reads_outcome b mode lsn (es ++ e ∷ []) ≡ with_entry (register_in b) mode lsn (reads_outcome b mode lsn es) (length es) e
-    go true q = on-register b mode lsn (es ++ e ∷ []) q ∙ with-more (register_in b) mode lsn es e ∙ ap (λ (o : Outcome Finding). with_entry (register_in b) mode lsn o (length es) e) (sym (on-register b mode lsn es q))
-    go false q = on-ill-formed b mode lsn (es ++ e ∷ []) q ∙ sym (ap (λ (o : Outcome Finding). with_entry (register_in b) mode lsn o (length es) e) (on-ill-formed b mode lsn es q) ∙ stays (register_in b) mode lsn 1 (length es) e)
+    go true q = on_register b mode lsn (es ++ e ∷ []) q ∙ with_more (register_in b) mode lsn es e ∙ ap (λ (o : Outcome Finding). with_entry (register_in b) mode lsn o (length es) e) (sym (on_register b mode lsn es q))
+    go false q = on_ill_formed b mode lsn (es ++ e ∷ []) q ∙ sym (ap (λ (o : Outcome Finding). with_entry (register_in b) mode lsn o (length es) e) (on_ill_formed b mode lsn es q) ∙ stays (register_in b) mode lsn 1 (length es) e)
 
 -- what a place past the last entry is taken to hold
 abbrev pub no_read : Read
 no_read = record { key = 0; csn = 0 }
 
 -- a turn of the loop: from the first i entries to the first i + 1
-pub to-next : (b : Bytes) (mode lsn : ℕ) (es : List Read) (i : ℕ) (e : Read) {o o' : Outcome Finding} → i < length es → e ≡ get_or es i no_read
+pub to_next : (b : Bytes) (mode lsn : ℕ) (es : List Read) (i : ℕ) (e : Read) {o o' : Outcome Finding} → i < length es → e ≡ get_or es i no_read
     → o ≡ reads_outcome b mode lsn (take i es) → o' ≡ with_entry (register_in b) mode lsn o i e → o' ≡ reads_outcome b mode lsn (take (suc i) es)
-to-next b mode lsn es i e {o} {o'} l q p p' =
+to_next b mode lsn es i e {o} {o'} l q p p' =
     p'
     ∙ ap₂ (λ (x : Outcome Finding) (n : ℕ). with_entry (register_in b) mode lsn x n e) p (sym (length-take-le i es (omega arith)))
     ∙ sym (more b mode lsn (take i es) e)
@@ -175,8 +175,8 @@ to-next b mode lsn es i e {o} {o'} l q p p' =
 
 -- ---- no entry
 
-pub none-refused : (b : Bytes) (mode lsn : ℕ) → is_register b ≡ true → ((1 ≤ mode) × (mode ≤ 3) × (lsn ≤ (register_in b).snapshot) → ⊥) → refused 10 ≡ reads_outcome b mode lsn []
-none-refused b mode lsn q h = sym (on-register b mode lsn [] q ∙ ap (λ (t : Bool). if t then refused 10 else done (check_from (register_in b) mode lsn 0 [])) (bad (register_in b) h))
+pub none_refused : (b : Bytes) (mode lsn : ℕ) → is_register b ≡ true → ((1 ≤ mode) × (mode ≤ 3) × (lsn ≤ (register_in b).snapshot) → ⊥) → refused 10 ≡ reads_outcome b mode lsn []
+none_refused b mode lsn q h = sym (on_register b mode lsn [] q ∙ ap (λ (t : Bool). if t then refused 10 else done (check_from (register_in b) mode lsn 0 [])) (bad (register_in b) h))
   where
     bad : (g : Register) → ((1 ≤ mode) × (mode ≤ 3) × (lsn ≤ g.snapshot) → ⊥) → bad_check g mode lsn [] ≡ true
     bad g h = go (leb 1 mode and leb mode snapshot_isolation) (ltb g.snapshot lsn) refl refl
@@ -188,7 +188,7 @@ none-refused b mode lsn q h = sym (on-register b mode lsn [] q ∙ ap (λ (t : B
 
 pub none_passes : (b : Bytes) (mode lsn : ℕ) → is_register b ≡ true → 1 ≤ mode → mode ≤ 3 → lsn ≤ (register_in b).snapshot → done passes ≡ reads_outcome b mode lsn []
 unfolding check_from
-none_passes b mode lsn q h k l = sym (on-register b mode lsn [] q ∙ ap (λ (t : Bool). if t then refused 10 else done passes) (good (register_in b) l))
+none_passes b mode lsn q h k l = sym (on_register b mode lsn [] q ∙ ap (λ (t : Bool). if t then refused 10 else done passes) (good (register_in b) l))
   where
     good : (g : Register) → lsn ≤ g.snapshot → bad_check g mode lsn [] ≡ false
     good g l = unfold bad_check any ◌or◌ in ap₂ ◌or◌ (ap not (both (le-leb 1 mode h) (le-leb mode 3 k))) (le-ltb g.snapshot lsn l)
@@ -199,15 +199,15 @@ too_many_lem : (g : Register) (mode lsn : ℕ) (es : List Read) → 32 < length 
 unfolding bad_check
 too_many_lem g mode lsn es h = or_right _ _ (or_right _ _ (or_left _ _ (lt-ltb max_reads (length es) h)))
 
-both-refused : (b : Bytes) (mode lsn : ℕ) (es fs : List Read) → 32 < length es → 32 < length fs → reads_outcome b mode lsn es ≡ reads_outcome b mode lsn fs
-both-refused b mode lsn es fs h k = go (is_register b) refl
+both_refused : (b : Bytes) (mode lsn : ℕ) (es fs : List Read) → 32 < length es → 32 < length fs → reads_outcome b mode lsn es ≡ reads_outcome b mode lsn fs
+both_refused b mode lsn es fs h k = go (is_register b) refl
   where
     go : (t : Bool) → is_register b ≡ t → reads_outcome b mode lsn es ≡ reads_outcome b mode lsn fs
-    go true q = (on-register b mode lsn es q ∙ refuses es h) ∙ sym (on-register b mode lsn fs q ∙ refuses fs k)
+    go true q = (on_register b mode lsn es q ∙ refuses es h) ∙ sym (on_register b mode lsn fs q ∙ refuses fs k)
       where
         refuses : (xs : List Read) → 32 < length xs → (if bad_check (register_in b) mode lsn xs then refused 10 else done (check_from (register_in b) mode lsn 0 xs)) ≡ refused 10
         refuses xs l = rw (too_many_lem (register_in b) mode lsn xs l)
-    go false q = on-ill-formed b mode lsn es q ∙ sym (on-ill-formed b mode lsn fs q)
+    go false q = on_ill_formed b mode lsn es q ∙ sym (on_ill_formed b mode lsn fs q)
 
 -- THE FIRST 33 ENTRIES SETTLE THE OUTCOME
 pub settled : (b : Bytes) (mode lsn : ℕ) (es : List Read) → reads_outcome b mode lsn (take (enough (length es)) es) ≡ reads_outcome b mode lsn es
@@ -217,4 +217,4 @@ settled b mode lsn es = go (leb (length es) 33) refl
     go true q = ap (reads_outcome b mode lsn) (take_all (enough (length es)) es (omega (arith, leb-true (length es) 33 q)))
     go false q =
         let l = leb-false (length es) 33 q in
-        both-refused b mode lsn (take (enough (length es)) es) es (simp length-take (omega arith)) (omega arith)
+        both_refused b mode lsn (take (enough (length es)) es) es (simp length-take (omega arith)) (omega arith)

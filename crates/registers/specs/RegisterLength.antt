@@ -9,25 +9,25 @@ use Rattle.rules.specs.Refused.{register_room}
 use Rattle.laws.specs.Says.{Says, no_of, is_le, ◌also◌}
 use Rattle.registers.specs.RegisterForm.{register_head_length, place_of, length_from}
 
-head-says : (b : Bytes) → Says (leb register_head_length (length b) and leb (word 4 b 4) max_rows) ((register_head_length ≤ length b) × (word 4 b 4 ≤ max_rows))
-head-says b = is_le register_head_length (length b) also is_le (word 4 b 4) max_rows
+head_says : (b : Bytes) → Says (leb register_head_length (length b) and leb (word 4 b 4) max_rows) ((register_head_length ≤ length b) × (word 4 b 4 ≤ max_rows))
+head_says b = is_le register_head_length (length b) also is_le (word 4 b 4) max_rows
 
 pub length_none : (b : Bytes) → ((register_head_length ≤ length b) × (word 4 b 4 ≤ max_rows) → ⊥) → NoForm ≡ length_from b
 unfolding length_from
-length_none b h = rw (sym (no_of (head-says b) h))
+length_none b h = rw (sym (no_of (head_says b) h))
 
-pub length-told : (b : Bytes) → register_head_length ≤ length b → word 4 b 4 ≤ max_rows → length_from b ≡ Of (place_of (word 4 b 4))
+pub length_told : (b : Bytes) → register_head_length ≤ length b → word 4 b 4 ≤ max_rows → length_from b ≡ Of (place_of (word 4 b 4))
 unfolding length_from
-length-told b h n = rw ((head-says b).test (h, n))
+length_told b h n = rw ((head_says b).test (h, n))
 
 -- a length that is told is by a whole head
-pub head-told : (b : Bytes) (n : ℕ) → length_from b ≡ Of n → (register_head_length ≤ length b) × (word 4 b 4 ≤ max_rows) × (n ≡ place_of (word 4 b 4))
+pub head_told : (b : Bytes) (n : ℕ) → length_from b ≡ Of n → (register_head_length ≤ length b) × (word 4 b 4 ≤ max_rows) × (n ≡ place_of (word 4 b 4))
 unfolding length_from
-head-told b n e = go (leb register_head_length (length b) and leb (word 4 b 4) max_rows) refl e
+head_told b n e = go (leb register_head_length (length b) and leb (word 4 b 4) max_rows) refl e
   where
     go : (t : Bool) → (leb register_head_length (length b) and leb (word 4 b 4) max_rows) ≡ t → (if t then Of (place_of (word 4 b 4)) else NoForm) ≡ Of n
         → (register_head_length ≤ length b) × (word 4 b 4 ≤ max_rows) × (n ≡ place_of (word 4 b 4))
-    go true q p = let h = (head-says b).told q in (h.0, h.1, cc)
+    go true q p = let h = (head_says b).told q in (h.0, h.1, cc)
     go false q p = let z : ◌≡◌ {A = ℕ} 0 1 = cc in absurd (omega arith)
 
 -- no less than a head, and no more than a register's room
@@ -35,5 +35,5 @@ abbrev pub RegisterBounds : ℕ → Type 0
 RegisterBounds n = (register_head_length ≤ n) × (n ≤ register_room)
 
 -- A LENGTH THAT IS TOLD IS WITHIN BOUNDS
-pub told-within : (b : Bytes) (n : ℕ) → length_from b ≡ Of n → RegisterBounds n
-told-within b n e = let w = head-told b n e in (omega (arith, w), omega (arith, w))
+pub told_within : (b : Bytes) (n : ℕ) → length_from b ≡ Of n → RegisterBounds n
+told_within b n e = let w = head_told b n e in (omega (arith, w), omega (arith, w))

@@ -2,31 +2,31 @@
 use Rattle.std.specs.Prelude.{ℕ, ◌+◌, ◌≤◌, ◌≡◌, refl, List, [], ◌++◌, length}
 use Rattle.std.proofs.Common.{sym, ◌∙◌, ap, append-nil, append_assoc, add-zero, arith, length-append}
 use Rattle.words.specs.Words.{Bytes}
-use Rattle.words.specs.WordLaws.{stored-front}
+use Rattle.words.specs.WordLaws.{stored_front}
 use Rattle.rules.specs.declared.row.Row.{Row}
 use Rattle.rules.specs.Register.{Register, max_rows, register_bytes}
 use Rattle.rules.specs.Refused.{register_room}
 use Rattle.rules.specs.Promises.{over}
-use Rattle.laws.specs.RegisterLaws.{register-length}
+use Rattle.laws.specs.RegisterLaws.{register_length_lem}
 use Rattle.registers.specs.declared.writing.Draft.{Draft}
 use Rattle.registers.specs.RegisterForm.{register_head}
 use Rattle.registers.specs.RegisterWriting.{register_length, RowsPut, RowsFit, RowsAdded}
 
 -- ---- lengths
 
-pub length-fits : (n : ℕ) → n ≤ max_rows → register_length n ≤ register_room
+pub length_fits : (n : ℕ) → n ≤ max_rows → register_length n ≤ register_room
 unfolding register_length
-length-fits n h = omega arith
+length_fits n h = omega arith
 
-pub register-long : (g : Register) → length (register_bytes g) ≡ register_length (length g.rows)
+pub register_long : (g : Register) → length (register_bytes g) ≡ register_length (length g.rows)
 unfolding register_length
-register-long g = register-length g
+register_long g = register_length_lem g
 
 -- ---- steps
 
 module _ {d : Draft} {l : Bytes} where
-  pub none-added : RowsAdded [] d l d l
-  none-added =
+  pub none_added : RowsAdded [] d l d l
+  none_added =
       record {
         same = refl;
         put = sym (add-zero d.put);
@@ -34,8 +34,8 @@ module _ {d : Draft} {l : Bytes} where
         behind = λ s stood before p. rw append-nil p;
       }
 
-  pub then-added : {e f : Draft} {m n : Bytes} {xs ys : List Row} → RowsAdded xs d l e m → RowsAdded ys e m f n → RowsAdded (xs ++ ys) d l f n
-  then-added {xs = xs} {ys = ys} p q =
+  pub then_added : {e f : Draft} {m n : Bytes} {xs ys : List Row} → RowsAdded xs d l e m → RowsAdded ys e m f n → RowsAdded (xs ++ ys) d l f n
+  then_added {xs = xs} {ys = ys} p q =
       record {
         same = q.same ∙ p.same;
         put = omega (arith, p.put, q.put, length-append xs ys);
@@ -52,8 +52,8 @@ module _ {d : Draft} {l : Bytes} where
         left = omega (arith, p.same, p.put, h.left);
       }
 
-  pub fits-fewer : (j k : ℕ) → j ≤ k → RowsFit d k l → RowsFit d j l
-  fits-fewer j k h r = record { few = r.few; room = r.room; left = omega (arith, r.left) }
+  pub fits_fewer : (j k : ℕ) → j ≤ k → RowsFit d k l → RowsFit d j l
+  fits_fewer j k h r = record { few = r.few; room = r.room; left = omega (arith, r.left) }
 
 -- ---- the end
 
@@ -63,4 +63,4 @@ pub finished : (g : Register) {before after : Bytes} {d : Draft} → d.rows ≡ 
 unfolding over register_head register_bytes
 finished g {before} n room p =
     let bytes = rw n at p.bytes in
-    bytes ∙ stored-front before (register_bytes g) (omega (arith, register-long g, ap register_length n, room))
+    bytes ∙ stored_front before (register_bytes g) (omega (arith, register_long g, ap register_length n, room))

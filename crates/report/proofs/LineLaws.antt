@@ -14,25 +14,25 @@ use Rattle.rules.specs.declared.answer.Verdict.TheVariants.{Commit}
 use Rattle.rules.specs.Lists.{flat}
 use Rattle.rules.specs.Register.{Register, max_rows, is_register, register_in}
 use Rattle.rules.specs.Sheet.{Sheet, csn_of}
-use Rattle.laws.specs.RegisterLaws.{sound_register→, register-sound}
+use Rattle.laws.specs.RegisterLaws.{sound_register→, register_sound}
 use Rattle.registers.specs.RegisterReadings.{no_row, row_at}
 use Rattle.sheets.specs.SheetReadings.{no_set, set_at}
 use Rattle.report.specs.Report.{Put, snapshot_line, row_line, set_line, set_lines}
 use Rattle.forms.specs.VerdictForm.{verdicts_in, verdict_at}
-use Rattle.forms.specs.VerdictsBack.{verdicts-count}
-use Rattle.report.proofs.PutLaws.{then-put}
+use Rattle.forms.specs.VerdictsBack.{verdicts_count}
+use Rattle.report.proofs.PutLaws.{then_put}
 
-flat-more : {A : Type 0} (f : A → Bytes) (xs : List A) (i : ℕ) (d : A) → i < length xs → flat f (take (suc i) xs) ≡ flat f (take i xs) ++ f (get_or xs i d)
+flat_more : {A : Type 0} (f : A → Bytes) (xs : List A) (i : ℕ) (d : A) → i < length xs → flat f (take (suc i) xs) ≡ flat f (take i xs) ++ f (get_or xs i d)
 unfolding flat
-flat-more f [] i d h = absurd (omega arith)
-flat-more f (x ∷ xs) zero d h = append-nil (f x)
-flat-more f (x ∷ xs) (suc i) d h =
-    ap (λ (l : Bytes). f x ++ l) (flat-more f xs i d (omega arith)) ∙ sym (append_assoc (f x) (flat f (take i xs)) (f (get_or xs i d)))
+flat_more f [] i d h = absurd (omega arith)
+flat_more f (x ∷ xs) zero d h = append-nil (f x)
+flat_more f (x ∷ xs) (suc i) d h =
+    ap (λ (l : Bytes). f x ++ l) (flat_more f xs i d (omega arith)) ∙ sym (append_assoc (f x) (flat f (take i xs)) (f (get_or xs i d)))
 
 pub row_more : (g : Register) (i : ℕ) {l₀ l₁ l₂ : Bytes} {at k r : ℕ} {row : Row} → i < length g.rows → row ≡ row_at g i
     → Put (flat row_line (take i g.rows)) l₀ at l₁ k → Put (row_line row) l₁ k l₂ r → Put (flat row_line (take (i + 1) g.rows)) l₀ at l₂ r
 unfolding row_at
-row_more g i h e p q = rw (add-one i, flat-more row_line g.rows i no_row h) (then-put p (rw e at q))
+row_more g i h e p q = rw (add-one i, flat_more row_line g.rows i no_row h) (then_put p (rw e at q))
 
 lines_more : (cs : List ℕ) (vs : List Verdict) (i : ℕ) → i < length cs → i < length vs
     → set_lines (take (suc i) cs) (take (suc i) vs) ≡ set_lines (take i cs) (take i vs) ++ set_line (get_or cs i 0) (get_or vs i Commit)
@@ -55,17 +55,17 @@ set_more s b i {csn = csn} {v} h e f p q =
     let n = length s.sets in
     let c : get_or (map csn_of s.sets) i 0 ≡ csn = get_or-map csn_of s.sets i no_set ∙ sym e in
     let w : get_or (verdicts_in n b 0) i Commit ≡ v = unfold verdict_at in sym f in
-    let m = lines_more (map csn_of s.sets) (verdicts_in n b 0) i (simp length-map h) (simp verdicts-count h) in
-    rw (add-one i, m, c, w) (then-put p q)
+    let m = lines_more (map csn_of s.sets) (verdicts_in n b 0) i (simp length-map h) (simp verdicts_count h) in
+    rw (add-one i, m, c, w) (then_put p q)
 
 -- and of all of them
-pub sets-whole : (s : Sheet) (b : Bytes) (i : ℕ) → length s.sets ≤ i → first_sets s b i ≡ set_lines (map csn_of s.sets) (verdicts_in (length s.sets) b 0)
-sets-whole s b i h =
-    rw (take_all i (map csn_of s.sets) (simp length-map h), take_all i (verdicts_in (length s.sets) b 0) (simp verdicts-count h))
+pub sets_whole : (s : Sheet) (b : Bytes) (i : ℕ) → length s.sets ≤ i → first_sets s b i ≡ set_lines (map csn_of s.sets) (verdicts_in (length s.sets) b 0)
+sets_whole s b i h =
+    rw (take_all i (map csn_of s.sets) (simp length-map h), take_all i (verdicts_in (length s.sets) b 0) (simp verdicts_count h))
 
 -- the head line, of numbers that are the register's
-pub head-put : {s n s' n' : ℕ} {l₀ l₁ : Bytes} {at r : ℕ} → s ≡ s' → n ≡ n' → Put (snapshot_line s n) l₀ at l₁ r → Put (snapshot_line s' n') l₀ at l₁ r
-head-put e f p = rw (e, f) at p
+pub head_put : {s n s' n' : ℕ} {l₀ l₁ : Bytes} {at r : ℕ} → s ≡ s' → n ≡ n' → Put (snapshot_line s n) l₀ at l₁ r → Put (snapshot_line s' n') l₀ at l₁ r
+head_put e f p = rw (e, f) at p
 
-pub few-rows : (b : Bytes) → is_register b ≡ true → length (register_in b).rows ≤ max_rows
-few-rows b h = (sound_register→ (register_in b) (register-sound b h)).few
+pub few_rows : (b : Bytes) → is_register b ≡ true → length (register_in b).rows ≤ max_rows
+few_rows b h = (sound_register→ (register_in b) (register_sound b h)).few

@@ -20,11 +20,11 @@ text =
     ++ (114 ∷ 111 ∷ 119 ∷ 32 ∷ 50 ∷ 48 ∷ 32 ∷ 48 ∷ 32 ∷ 48 ∷ 32 ∷ 48 ∷ 32 ∷ 48 ∷ 10 ∷ [])
 
 -- A'S REPORT
-pub report-of-A : report after (3 ∷ 5 ∷ []) (Commit ∷ Lost 10 ∷ []) ≡ text
+pub report_of_A : report after (3 ∷ 5 ∷ []) (Commit ∷ Lost 10 ∷ []) ≡ text
 unfolding run_report
-report-of-A = refl
+report_of_A = refl
 
 -- a refusal
-pub refused-10 : refused_text 10 ≡ 114 ∷ 101 ∷ 102 ∷ 117 ∷ 115 ∷ 101 ∷ 100 ∷ 32 ∷ 49 ∷ 48 ∷ 10 ∷ []
+pub refused_10 : refused_text 10 ≡ 114 ∷ 101 ∷ 102 ∷ 117 ∷ 115 ∷ 101 ∷ 100 ∷ 32 ∷ 49 ∷ 48 ∷ 10 ∷ []
 unfolding run_report
-refused-10 = refl
+refused_10 = refl

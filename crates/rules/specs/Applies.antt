@@ -243,7 +243,7 @@ turn_of CheckIllFormed = 100
 
 -- it applies, and none that comes before it does
 pub record Foremost (q : Asked) (x : Refusal) : Type 0 where
-  pub it-applies : applies x q ≡ true
+  pub it_applies : applies x q ≡ true
   pub none_before : (y : Refusal) → turn_of y < turn_of x → applies y q ≡ false
 
 -- no refusal applies
@@ -252,10 +252,10 @@ NoneApplies q = (x : Refusal) → applies x q ≡ false
 
 -- what is asked is refused with a number just when that is the foremost that applies; else it is done, with this result
 pub record RefusedExactly {A : Type 0} (q : Asked) (o : Outcome A) (result : A) : Type 0 where
-  pub refused-when : (x : Refusal) → Foremost q x → o ≡ refused (refusal_number x)
-  pub only-when : (n : ℕ) → o ≡ refused n → (x : Refusal) × (n ≡ refusal_number x) × Foremost q x
-  pub else-done : NoneApplies q → o ≡ done result
-  pub only-else : (a : A) → o ≡ done a → NoneApplies q × (a ≡ result)
+  pub refused_when : (x : Refusal) → Foremost q x → o ≡ refused (refusal_number x)
+  pub only_when : (n : ℕ) → o ≡ refused n → (x : Refusal) × (n ≡ refusal_number x) × Foremost q x
+  pub else_done : NoneApplies q → o ≡ done result
+  pub only_else : (a : A) → o ≡ done a → NoneApplies q × (a ≡ result)
 
 -- opens all of these, for a proof by computation
 unfoldable pub run_applies : Unit {0}

@@ -4,14 +4,14 @@ use Rattle.std.proofs.Common.{eq-eqb, ne_eqb}
 use Rattle.rules.specs.declared.mark.Mark.{Mark}
 use Rattle.rules.specs.Numbers.{precedes}
 
-pub by-cen : (a b : Mark) → (a.cen ≡ b.cen → ⊥) → precedes a b ≡ ltb a.cen b.cen
+pub by_cen : (a b : Mark) → (a.cen ≡ b.cen → ⊥) → precedes a b ≡ ltb a.cen b.cen
 unfolding precedes
-by-cen a b h = simp (ne_eqb a.cen b.cen h)
+by_cen a b h = simp (ne_eqb a.cen b.cen h)
 
-pub by-sen : (a b : Mark) → a.cen ≡ b.cen → (a.sen ≡ b.sen → ⊥) → precedes a b ≡ ltb b.sen a.sen
+pub by_sen : (a b : Mark) → a.cen ≡ b.cen → (a.sen ≡ b.sen → ⊥) → precedes a b ≡ ltb b.sen a.sen
 unfolding precedes
-by-sen a b p h = simp (eq-eqb a.cen b.cen p, ne_eqb a.sen b.sen h)
+by_sen a b p h = simp (eq-eqb a.cen b.cen p, ne_eqb a.sen b.sen h)
 
-pub by-csn : (a b : Mark) → a.cen ≡ b.cen → a.sen ≡ b.sen → precedes a b ≡ ltb a.csn b.csn
+pub by_csn : (a b : Mark) → a.cen ≡ b.cen → a.sen ≡ b.sen → precedes a b ≡ ltb a.csn b.csn
 unfolding precedes
-by-csn a b p q = simp (eq-eqb a.cen b.cen p, eq-eqb a.sen b.sen q)
+by_csn a b p q = simp (eq-eqb a.cen b.cen p, eq-eqb a.sen b.sen q)

@@ -74,7 +74,7 @@ left_entering (done o) old = o
 -- of entering, where the open set was `before` and then is `after`
 pub record EnterPromise (o : Outcome OpenSet) (before : OpenSet) (answer : Entered) (after : OpenSet) : Type 0 where
   pub answered : entered_number answer ≡ told_entering o
-  pub open-set : after ≡ left_entering o before
+  pub open_set : after ≡ left_entering o before
 
 -- the open set after an offer: empty, unless it was refused
 unfoldable pub left_offering : Outcome Bytes → OpenSet → OpenSet
@@ -84,7 +84,7 @@ left_offering (done b) old = empty_set
 -- of offering, with a buffer for the sheet: what an operation with one buffer promises, and the open set
 pub record OfferPromise (o : Outcome Bytes) (before : OpenSet) (before-out : Bytes) (answer : Answer) (after : OpenSet) (after-out : Bytes) : Type 0 where
   pub sheet : Promise o before-out answer after-out
-  pub open-set : after ≡ left_offering o before
+  pub open_set : after ≡ left_offering o before
 
 -- opens all of these, for a proof by computation
 unfoldable pub run_promises : Unit {0}

@@ -29,91 +29,91 @@ refusal_of n =
     (RegisterIllFormed ∷ RegisterIllFormed ∷ SheetIllFormed ∷ OfferIllFormed ∷ WrongEpoch ∷ WrongRoster ∷ Spoiled ∷ Incomplete ∷ TooManyRows ∷ BufferShort ∷ CheckIllFormed ∷ BadTag ∷ KeyEntered ∷ [])
     n NinthRecord
 
-refusal-back : (x : Refusal) → refusal_of (refusal_number x) ≡ x
-refusal-back RegisterIllFormed = refl
-refusal-back SheetIllFormed = refl
-refusal-back OfferIllFormed = refl
-refusal-back WrongEpoch = refl
-refusal-back WrongRoster = refl
-refusal-back Spoiled = refl
-refusal-back Incomplete = refl
-refusal-back TooManyRows = refl
-refusal-back BufferShort = refl
-refusal-back CheckIllFormed = refl
-refusal-back BadTag = refl
-refusal-back KeyEntered = refl
-refusal-back NinthRecord = refl
+refusal_back : (x : Refusal) → refusal_of (refusal_number x) ≡ x
+refusal_back RegisterIllFormed = refl
+refusal_back SheetIllFormed = refl
+refusal_back OfferIllFormed = refl
+refusal_back WrongEpoch = refl
+refusal_back WrongRoster = refl
+refusal_back Spoiled = refl
+refusal_back Incomplete = refl
+refusal_back TooManyRows = refl
+refusal_back BufferShort = refl
+refusal_back CheckIllFormed = refl
+refusal_back BadTag = refl
+refusal_back KeyEntered = refl
+refusal_back NinthRecord = refl
 
-pub same-refusal : (x y : Refusal) → refusal_number x ≡ refusal_number y → x ≡ y
-same-refusal x y e = sym (refusal-back x) ∙ ap refusal_of e ∙ refusal-back y
+pub same_refusal : (x y : Refusal) → refusal_number x ≡ refusal_number y → x ≡ y
+same_refusal x y e = sym (refusal_back x) ∙ ap refusal_of e ∙ refusal_back y
 
 -- no refusal has the number of a success
-pub refusal-some : (x : Refusal) → 0 ≡ refusal_number x → ⊥
-refusal-some RegisterIllFormed e = omega arith
-refusal-some SheetIllFormed e = omega arith
-refusal-some OfferIllFormed e = omega arith
-refusal-some WrongEpoch e = omega arith
-refusal-some WrongRoster e = omega arith
-refusal-some Spoiled e = omega arith
-refusal-some Incomplete e = omega arith
-refusal-some TooManyRows e = omega arith
-refusal-some BufferShort e = omega arith
-refusal-some CheckIllFormed e = omega arith
-refusal-some BadTag e = omega arith
-refusal-some KeyEntered e = omega arith
-refusal-some NinthRecord e = omega arith
+pub refusal_some : (x : Refusal) → 0 ≡ refusal_number x → ⊥
+refusal_some RegisterIllFormed e = omega arith
+refusal_some SheetIllFormed e = omega arith
+refusal_some OfferIllFormed e = omega arith
+refusal_some WrongEpoch e = omega arith
+refusal_some WrongRoster e = omega arith
+refusal_some Spoiled e = omega arith
+refusal_some Incomplete e = omega arith
+refusal_some TooManyRows e = omega arith
+refusal_some BufferShort e = omega arith
+refusal_some CheckIllFormed e = omega arith
+refusal_some BadTag e = omega arith
+refusal_some KeyEntered e = omega arith
+refusal_some NinthRecord e = omega arith
 
 abbrev reason_of : ℕ → Reason
 reason_of n = get_or (Gone ∷ Gone ∷ OtherCsn ∷ []) n TooNew
 
-reason-back : (x : Reason) → reason_of (reason_number x) ≡ x
-reason-back Gone = refl
-reason-back OtherCsn = refl
-reason-back TooNew = refl
+reason_back : (x : Reason) → reason_of (reason_number x) ≡ x
+reason_back Gone = refl
+reason_back OtherCsn = refl
+reason_back TooNew = refl
 
-pub same-reason : (x y : Reason) → reason_number x ≡ reason_number y → x ≡ y
-same-reason x y e = sym (reason-back x) ∙ ap reason_of e ∙ reason-back y
+pub same_reason : (x y : Reason) → reason_number x ≡ reason_number y → x ≡ y
+same_reason x y e = sym (reason_back x) ∙ ap reason_of e ∙ reason_back y
 
 -- and no reason the 0 of a pass
-pub reason-some : (x : Reason) → 0 ≡ reason_number x → ⊥
-reason-some Gone e = omega arith
-reason-some OtherCsn e = omega arith
-reason-some TooNew e = omega arith
+pub reason_some : (x : Reason) → 0 ≡ reason_number x → ⊥
+reason_some Gone e = omega arith
+reason_some OtherCsn e = omega arith
+reason_some TooNew e = omega arith
 
 same_answer : (a b : Answer) → answer_numbers a ≡ answer_numbers b → a ≡ b
 same_answer (answer.Wrote n) (answer.Wrote m) e = ap answer.Wrote (ap (λ (x : ℕ × ℕ). x.1) e)
-same_answer (answer.Wrote n) (answer.Refused y) e = absurd (refusal-some y (ap (λ (x : ℕ × ℕ). x.0) e))
-same_answer (answer.Refused x) (answer.Wrote m) e = absurd (refusal-some x (sym (ap (λ (x : ℕ × ℕ). x.0) e)))
-same_answer (answer.Refused x) (answer.Refused y) e = ap answer.Refused (same-refusal x y (ap (λ (x : ℕ × ℕ). x.0) e))
+same_answer (answer.Wrote n) (answer.Refused y) e = absurd (refusal_some y (ap (λ (x : ℕ × ℕ). x.0) e))
+same_answer (answer.Refused x) (answer.Wrote m) e = absurd (refusal_some x (sym (ap (λ (x : ℕ × ℕ). x.0) e)))
+same_answer (answer.Refused x) (answer.Refused y) e = ap answer.Refused (same_refusal x y (ap (λ (x : ℕ × ℕ). x.0) e))
 
-same-closed : (a b : Closed) → closed_numbers a ≡ closed_numbers b → a ≡ b
-same-closed (closed.Wrote n m) (closed.Wrote k l) e = ap₂ closed.Wrote (ap (λ (x : ℕ × ℕ × ℕ). x.1) e) (ap (λ (x : ℕ × ℕ × ℕ). x.2) e)
-same-closed (closed.Wrote n m) (closed.Refused y) e = absurd (refusal-some y (ap (λ (x : ℕ × ℕ × ℕ). x.0) e))
-same-closed (closed.Refused x) (closed.Wrote k l) e = absurd (refusal-some x (sym (ap (λ (x : ℕ × ℕ × ℕ). x.0) e)))
-same-closed (closed.Refused x) (closed.Refused y) e = ap closed.Refused (same-refusal x y (ap (λ (x : ℕ × ℕ × ℕ). x.0) e))
+same_closed : (a b : Closed) → closed_numbers a ≡ closed_numbers b → a ≡ b
+same_closed (closed.Wrote n m) (closed.Wrote k l) e = ap₂ closed.Wrote (ap (λ (x : ℕ × ℕ × ℕ). x.1) e) (ap (λ (x : ℕ × ℕ × ℕ). x.2) e)
+same_closed (closed.Wrote n m) (closed.Refused y) e = absurd (refusal_some y (ap (λ (x : ℕ × ℕ × ℕ). x.0) e))
+same_closed (closed.Refused x) (closed.Wrote k l) e = absurd (refusal_some x (sym (ap (λ (x : ℕ × ℕ × ℕ). x.0) e)))
+same_closed (closed.Refused x) (closed.Refused y) e = ap closed.Refused (same_refusal x y (ap (λ (x : ℕ × ℕ × ℕ). x.0) e))
 
 -- the numbers of the read check's answer
 abbrev pub Four : Type 0
 Four = ℕ × ℕ × ℕ × ℕ
 
-same-checked : (a b : Checked) → checked_numbers a ≡ checked_numbers b → a ≡ b
-same-checked checked.Pass checked.Pass e = refl
-same-checked checked.Pass (checked.Fails i k r) e = absurd (reason-some r (ap (λ (x : Four). x.3) e))
-same-checked checked.Pass (checked.Refused y) e = absurd (refusal-some y (ap (λ (x : Four). x.0) e))
-same-checked (checked.Fails i k r) checked.Pass e = absurd (reason-some r (sym (ap (λ (x : Four). x.3) e)))
-same-checked (checked.Fails i k r) (checked.Fails j l q) e =
-    let p = same-reason r q (ap (λ (x : Four). x.3) e) in
+same_checked : (a b : Checked) → checked_numbers a ≡ checked_numbers b → a ≡ b
+same_checked checked.Pass checked.Pass e = refl
+same_checked checked.Pass (checked.Fails i k r) e = absurd (reason_some r (ap (λ (x : Four). x.3) e))
+same_checked checked.Pass (checked.Refused y) e = absurd (refusal_some y (ap (λ (x : Four). x.0) e))
+same_checked (checked.Fails i k r) checked.Pass e = absurd (reason_some r (sym (ap (λ (x : Four). x.3) e)))
+same_checked (checked.Fails i k r) (checked.Fails j l q) e =
+    let p = same_reason r q (ap (λ (x : Four). x.3) e) in
     λ t. checked.Fails (ap (λ (x : Four). x.1) e t) (ap (λ (x : Four). x.2) e t) (p t)
-same-checked (checked.Fails i k r) (checked.Refused y) e = absurd (refusal-some y (ap (λ (x : Four). x.0) e))
-same-checked (checked.Refused x) checked.Pass e = absurd (refusal-some x (sym (ap (λ (x : Four). x.0) e)))
-same-checked (checked.Refused x) (checked.Fails j l q) e = absurd (refusal-some x (sym (ap (λ (x : Four). x.0) e)))
-same-checked (checked.Refused x) (checked.Refused y) e = ap checked.Refused (same-refusal x y (ap (λ (x : Four). x.0) e))
+same_checked (checked.Fails i k r) (checked.Refused y) e = absurd (refusal_some y (ap (λ (x : Four). x.0) e))
+same_checked (checked.Refused x) checked.Pass e = absurd (refusal_some x (sym (ap (λ (x : Four). x.0) e)))
+same_checked (checked.Refused x) (checked.Fails j l q) e = absurd (refusal_some x (sym (ap (λ (x : Four). x.0) e)))
+same_checked (checked.Refused x) (checked.Refused y) e = ap checked.Refused (same_refusal x y (ap (λ (x : Four). x.0) e))
 
-same-entered : (a b : Entered) → entered_number a ≡ entered_number b → a ≡ b
-same-entered entered.Added entered.Added e = refl
-same-entered entered.Added (entered.Refused y) e = absurd (refusal-some y e)
-same-entered (entered.Refused x) entered.Added e = absurd (refusal-some x (sym e))
-same-entered (entered.Refused x) (entered.Refused y) e = ap entered.Refused (same-refusal x y e)
+same_entered : (a b : Entered) → entered_number a ≡ entered_number b → a ≡ b
+same_entered entered.Added entered.Added e = refl
+same_entered entered.Added (entered.Refused y) e = absurd (refusal_some y e)
+same_entered (entered.Refused x) entered.Added e = absurd (refusal_some x (sym e))
+same_entered (entered.Refused x) (entered.Refused y) e = ap entered.Refused (same_refusal x y e)
 
 -- ---- settled
 
@@ -122,22 +122,22 @@ pub settled : (o : Outcome Bytes) (before : Bytes) {a b : Answer} {after after' 
 settled o before {a} {b} p q = (same_answer a b (p.answered ∙ sym q.answered), p.buffer ∙ sym q.buffer)
 
 -- THE SAME OF CLOSING
-pub settled-closing : (o : Outcome Closing) (next verdicts : Bytes) {a b : Closed} {n n' v v' : Bytes}
+pub settled_closing : (o : Outcome Closing) (next verdicts : Bytes) {a b : Closed} {n n' v v' : Bytes}
     → ClosePromise o next verdicts a n v → ClosePromise o next verdicts b n' v' → (a ≡ b) × (n ≡ n') × (v ≡ v')
-settled-closing o next verdicts {a} {b} p q =
-    (same-closed a b (p.answered ∙ sym q.answered), p.next ∙ sym q.next, p.verdicts ∙ sym q.verdicts)
+settled_closing o next verdicts {a} {b} p q =
+    (same_closed a b (p.answered ∙ sym q.answered), p.next ∙ sym q.next, p.verdicts ∙ sym q.verdicts)
 
 -- AND OF THE READ CHECK
-pub settled-check : (o : Outcome Finding) {a b : Checked} → CheckPromise o a → CheckPromise o b → a ≡ b
-settled-check o {a} {b} p q = same-checked a b (p.answered ∙ sym q.answered)
+pub settled_check : (o : Outcome Finding) {a b : Checked} → CheckPromise o a → CheckPromise o b → a ≡ b
+settled_check o {a} {b} p q = same_checked a b (p.answered ∙ sym q.answered)
 
 -- OF ENTERING
-pub settled-entering : (o : Outcome OpenSet) (before : OpenSet) {a b : Entered} {after after' : OpenSet}
+pub settled_entering : (o : Outcome OpenSet) (before : OpenSet) {a b : Entered} {after after' : OpenSet}
     → EnterPromise o before a after → EnterPromise o before b after' → (a ≡ b) × (after ≡ after')
-settled-entering o before {a} {b} p q = (same-entered a b (p.answered ∙ sym q.answered), p.open-set ∙ sym q.open-set)
+settled_entering o before {a} {b} p q = (same_entered a b (p.answered ∙ sym q.answered), p.open_set ∙ sym q.open_set)
 
 -- AND OF OFFERING
-pub settled-offering : (o : Outcome Bytes) (before : OpenSet) (out : Bytes) {a b : Answer} {after after' : OpenSet} {out₁ out₂ : Bytes}
+pub settled_offering : (o : Outcome Bytes) (before : OpenSet) (out : Bytes) {a b : Answer} {after after' : OpenSet} {out₁ out₂ : Bytes}
     → OfferPromise o before out a after out₁ → OfferPromise o before out b after' out₂ → (a ≡ b) × (after ≡ after') × (out₁ ≡ out₂)
-settled-offering o before out {a} {b} p q =
-    (same_answer a b (p.sheet.answered ∙ sym q.sheet.answered), p.open-set ∙ sym q.open-set, p.sheet.buffer ∙ sym q.sheet.buffer)
+settled_offering o before out {a} {b} p q =
+    (same_answer a b (p.sheet.answered ∙ sym q.sheet.answered), p.open_set ∙ sym q.open_set, p.sheet.buffer ∙ sym q.sheet.buffer)

@@ -5,34 +5,34 @@ use mathlib.Core.Bool.{Bool}
 use mathlib.Core.List.{[], ◌∷◌, ◌++◌}
 use lib.ListN.{set, length-append}
 use Rattle.words.specs.Words.{Bytes, le, stored}
-use Rattle.words.specs.WordLaws.{le-length, then-stored}
+use Rattle.words.specs.WordLaws.{le_length, then_stored}
 use Rattle.rules.specs.Sheet.{state_byte}
 use Rattle.rules.specs.Gathering.{no_notices}
 use Rattle.sheets.specs.SheetReadings.{notices_place, start_bytes, entry_bytes}
 
-pub start-stored : (l₀ : Bytes) {l₁ l₂ : Bytes} (epoch roster x n : ℕ) (t : Bool) → l₁ ≡ stored l₀ 0 (le 4 epoch) → l₂ ≡ stored l₁ 4 (le 2 roster) → x ≡ state_byte t
+pub start_stored : (l₀ : Bytes) {l₁ l₂ : Bytes} (epoch roster x n : ℕ) (t : Bool) → l₁ ≡ stored l₀ 0 (le 4 epoch) → l₂ ≡ stored l₁ 4 (le 2 roster) → x ≡ state_byte t
     → set (set l₂ 6 x) 7 n ≡ stored l₀ 0 (start_bytes epoch roster t n)
 unfolding start_bytes
-start-stored l₀ {l₁} {l₂} epoch roster x n t p q e =
+start_stored l₀ {l₁} {l₂} epoch roster x n t p q e =
     let a = le 4 epoch in
     let b = a ++ le 2 roster in
-    let s = then-stored l₀ 0 4 a (le 2 roster) p q (simp le-length) in
+    let s = then_stored l₀ 0 4 a (le 2 roster) p q (simp le_length) in
     let last : set (set l₂ 6 x) 7 n ≡ stored l₂ 6 (x ∷ n ∷ []) = unfold stored in refl in
-    then-stored l₀ 0 6 b (state_byte t ∷ n ∷ []) s (last ∙ ap (λ (y : ℕ). stored l₂ 6 (y ∷ n ∷ [])) e) (simp (length-append, le-length))
+    then_stored l₀ 0 6 b (state_byte t ∷ n ∷ []) s (last ∙ ap (λ (y : ℕ). stored l₂ 6 (y ∷ n ∷ [])) e) (simp (length-append, le_length))
 
-pub entry-stored : (l₀ : Bytes) {l₁ l₂ l₃ l₄ : Bytes} (at csn sen first count : ℕ) → l₁ ≡ stored l₀ at (le 8 csn) → l₂ ≡ stored l₁ (at + 8) (le 4 sen)
+pub entry_stored : (l₀ : Bytes) {l₁ l₂ l₃ l₄ : Bytes} (at csn sen first count : ℕ) → l₁ ≡ stored l₀ at (le 8 csn) → l₂ ≡ stored l₁ (at + 8) (le 4 sen)
     → l₃ ≡ stored l₂ (at + 12) (le 2 first) → l₄ ≡ stored l₃ (at + 14) (le 2 count) → l₄ ≡ stored l₀ at (entry_bytes csn sen first count)
 unfolding entry_bytes
-entry-stored l₀ at csn sen first count p q r s =
+entry_stored l₀ at csn sen first count p q r s =
     let a = le 8 csn in
     let b = a ++ le 4 sen in
     let c = b ++ le 2 first in
-    let x = then-stored l₀ at (at + 8) a (le 4 sen) p q (simp le-length) in
-    let y = then-stored l₀ at (at + 12) b (le 2 first) x r (simp (length-append, le-length)) in
-    then-stored l₀ at (at + 14) c (le 2 count) y s (simp (length-append, le-length))
+    let x = then_stored l₀ at (at + 8) a (le 4 sen) p q (simp le_length) in
+    let y = then_stored l₀ at (at + 12) b (le 2 first) x r (simp (length-append, le_length)) in
+    then_stored l₀ at (at + 14) c (le 2 count) y s (simp (length-append, le_length))
 
-pub none-stored : (l₀ : Bytes) {l₁ l₂ : Bytes} → l₁ ≡ stored l₀ 8 (le 8 18446744073709551615) → l₂ ≡ stored l₁ 16 (le 8 18446744073709551615) → l₂ ≡ stored l₀ notices_place no_notices
-none-stored l₀ p q =
+pub none_stored : (l₀ : Bytes) {l₁ l₂ : Bytes} → l₁ ≡ stored l₀ 8 (le 8 18446744073709551615) → l₂ ≡ stored l₁ 16 (le 8 18446744073709551615) → l₂ ≡ stored l₀ notices_place no_notices
+none_stored l₀ p q =
     let a = le 8 18446744073709551615 in
     let e : a ++ a ≡ no_notices = unfold le in refl in
-    then-stored l₀ 8 16 a a p q (simp le-length) ∙ ap (stored l₀ 8) e
+    then_stored l₀ 8 16 a a p q (simp le_length) ∙ ap (stored l₀ 8) e

@@ -14,9 +14,9 @@ use Rattle.rules.specs.declared.extent.Extent.TheVariants.{Of, NoForm}
 use Rattle.rules.specs.Sheet.{WriteSet, is_sheet, sheet_in}
 use Rattle.sheets.specs.SheetReadings.{no_set, set_at, total, head_length, entry_place, record_length}
 use Rattle.sheets.specs.SheetLength.{contents_end, counts_to, end_from, sheet_end}
-use Rattle.sheets.specs.LengthLaws.{head-tells}
-use Rattle.sheets.specs.SheetSizes.{formed, few-sets}
-use Rattle.sheets.proofs.SheetPlaces.{set-count, record-count}
+use Rattle.sheets.specs.LengthLaws.{head_tells}
+use Rattle.sheets.specs.SheetSizes.{formed, few_sets}
+use Rattle.sheets.proofs.SheetPlaces.{set_count_lem, record_count_lem}
 
 -- ---- what the contents tell
 
@@ -28,54 +28,54 @@ pub cut : (b : Bytes) (n : ℕ) → contents_end b ≡ Of n → length b < n →
 unfolding sheet_end end_from
 cut b n e k = rw e (simp (lt-leb n (length b) k))
 
-pub contents-tell : (b : Bytes) (n : ℕ) → contents_end b ≡ Of n → n ≤ length b → Of (n + record_length * counts_to (get_or b 7 0) b) ≡ sheet_end b
+pub contents_tell : (b : Bytes) (n : ℕ) → contents_end b ≡ Of n → n ≤ length b → Of (n + record_length * counts_to (get_or b 7 0) b) ≡ sheet_end b
 unfolding sheet_end end_from
-contents-tell b n e k = rw e (simp (le-leb n (length b) k))
+contents_tell b n e k = rw e (simp (le-leb n (length b) k))
 
-pub counts-more : (n : ℕ) (b : Bytes) → counts_to (n + 1) b ≡ counts_to n b + word 2 b (entry_place n + 14)
+pub counts_more : (n : ℕ) (b : Bytes) → counts_to (n + 1) b ≡ counts_to n b + word 2 b (entry_place n + 14)
 unfolding counts_to
-counts-more n b = rw (add-one n)
+counts_more n b = rw (add-one n)
 
 -- ---- a well-formed sheet's own length
 
-total-next : (ws : List WriteSet) (i : ℕ) → i < length ws → total (take (suc i) ws) ≡ total (take i ws) + length (get_or ws i no_set).records
+total_next : (ws : List WriteSet) (i : ℕ) → i < length ws → total (take (suc i) ws) ≡ total (take i ws) + length (get_or ws i no_set).records
 unfolding total
-total-next [] i h = absurd (omega arith)
-total-next (w ∷ ws) zero h = omega arith
-total-next (w ∷ ws) (suc i) h = omega (arith, total-next ws i (omega arith))
+total_next [] i h = absurd (omega arith)
+total_next (w ∷ ws) zero h = omega arith
+total_next (w ∷ ws) (suc i) h = omega (arith, total_next ws i (omega arith))
 
-counts-total : (b : Bytes) (n : ℕ) → n ≤ length (sheet_in b).sets → counts_to n b ≡ total (take n (sheet_in b).sets)
+counts_total : (b : Bytes) (n : ℕ) → n ≤ length (sheet_in b).sets → counts_to n b ≡ total (take n (sheet_in b).sets)
 unfolding counts_to set_at
-counts-total b zero h = unfold total in refl
-counts-total b (suc n) h =
-    omega (arith, counts-total b n (omega arith), record-count b n (omega arith), total-next (sheet_in b).sets n (omega arith))
+counts_total b zero h = unfold total in refl
+counts_total b (suc n) h =
+    omega (arith, counts_total b n (omega arith), record_count_lem b n (omega arith), total_next (sheet_in b).sets n (omega arith))
 
 -- the counts stand in the contents, so no more need be seen
-same-counts : (k : ℕ) (b : Bytes) (n : ℕ) → entry_place k ≤ n → counts_to k (take n b) ≡ counts_to k b
+same_counts : (k : ℕ) (b : Bytes) (n : ℕ) → entry_place k ≤ n → counts_to k (take n b) ≡ counts_to k b
 unfolding counts_to
-same-counts zero b n h = refl
-same-counts (suc k) b n h =
+same_counts zero b n h = refl
+same_counts (suc k) b n h =
     let w : word 2 (take n b) (entry_place k + 14) ≡ word 2 b (entry_place k + 14) =
     word_same 2 (take n b) b (entry_place k + 14) (λ j l m. get_or-take n b j 0 (omega arith)) in
-    rw (same-counts k b n (omega arith), w)
+    rw (same_counts k b n (omega arith), w)
 
 -- WHERE A SHEET'S CONTENTS END IS WHAT ITS HEAD TELLS, however much more of it is seen
-pub own-contents : (b : Bytes) → is_sheet b ≡ true → (n : ℕ) → head_length ≤ n → contents_end (take n b) ≡ Of (entry_place (length (sheet_in b).sets))
-own-contents b e n h =
+pub own_contents : (b : Bytes) → is_sheet b ≡ true → (n : ℕ) → head_length ≤ n → contents_end (take n b) ≡ Of (entry_place (length (sheet_in b).sets))
+own_contents b e n h =
     let f = formed b e in
-    let few = few-sets b e in
-    let c : get_or (take n b) 7 0 ≡ length (sheet_in b).sets = get_or-take n b 7 0 (omega arith) ∙ sym (set-count b) in
+    let few = few_sets b e in
+    let c : get_or (take n b) 7 0 ≡ length (sheet_in b).sets = get_or-take n b 7 0 (omega arith) ∙ sym (set_count_lem b) in
     let seen : head_length ≤ length (take n b) = simp length-take (omega (arith, f.long)) in
-    sym (head-tells (take n b) seen (omega arith)) ∙ ap (λ (k : ℕ). Of (entry_place k)) c
+    sym (head_tells (take n b) seen (omega arith)) ∙ ap (λ (k : ℕ). Of (entry_place k)) c
 
 -- A SHEET'S LENGTH IS WHAT ITS HEAD AND CONTENTS TELL, however much more of it is seen
-pub own-length : (b : Bytes) → is_sheet b ≡ true → (n : ℕ) → entry_place (length (sheet_in b).sets) ≤ n → sheet_end (take n b) ≡ Of (length b)
-own-length b e n h =
+pub own_length : (b : Bytes) → is_sheet b ≡ true → (n : ℕ) → entry_place (length (sheet_in b).sets) ≤ n → sheet_end (take n b) ≡ Of (length b)
+own_length b e n h =
     let f = formed b e in
     let ws = (sheet_in b).sets in
-    let c : get_or (take n b) 7 0 ≡ length ws = get_or-take n b 7 0 (omega arith) ∙ sym (set-count b) in
+    let c : get_or (take n b) 7 0 ≡ length ws = get_or-take n b 7 0 (omega arith) ∙ sym (set_count_lem b) in
     let seen : entry_place (length ws) ≤ length (take n b) = simp length-take (omega (arith, f.long)) in
     let all : take (length ws) ws ≡ ws = take_all (length ws) ws (omega arith) in
     let d : counts_to (get_or (take n b) 7 0) (take n b) ≡ total ws =
-    ap (λ (k : ℕ). counts_to k (take n b)) c ∙ same-counts (length ws) b n h ∙ counts-total b (length ws) (omega arith) ∙ ap total all in
-    sym (contents-tell (take n b) (entry_place (length ws)) (own-contents b e n (omega arith)) seen) ∙ ap Of (omega (arith, f.long, d))
+    ap (λ (k : ℕ). counts_to k (take n b)) c ∙ same_counts (length ws) b n h ∙ counts_total b (length ws) (omega arith) ∙ ap total all in
+    sym (contents_tell (take n b) (entry_place (length ws)) (own_contents b e n (omega arith)) seen) ∙ ap Of (omega (arith, f.long, d))

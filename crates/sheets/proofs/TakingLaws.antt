@@ -12,14 +12,14 @@ use Rattle.sheets.specs.SheetReadings.{set_at}
 use Rattle.sheets.specs.Taking.{taken, next_of, Within, Smaller, Chosen}
 
 module _ (a b : Sheet) (i j : ℕ) (n : Next) (k : Chosen n a i b j) where
-  pub first-within : n ≡ First → i < length a.sets
-  first-within e = let l : Within First a i b j = rw e at k.within in l
+  pub first_within : n ≡ First → i < length a.sets
+  first_within e = let l : Within First a i b j = rw e at k.within in l
 
-  pub second-within : n ≡ Second → j < length b.sets
-  second-within e = let l : Within Second a i b j = rw e at k.within in l
+  pub second_within : n ≡ Second → j < length b.sets
+  second_within e = let l : Within Second a i b j = rw e at k.within in l
 
-  pub both-within : n ≡ Both → j < length b.sets
-  both-within e = let l : Within Both a i b j = rw e at k.within in l.1
+  pub both_within : n ≡ Both → j < length b.sets
+  both_within e = let l : Within Both a i b j = rw e at k.within in l.1
 
 module _ (v w : WriteSet) (n : Next) where
   abbrev body_of : Next → Bytes
@@ -29,23 +29,23 @@ module _ (v w : WriteSet) (n : Next) where
   unfolding taken
   first_taken e = sym (ap body_of e)
 
-  pub second-taken : n ≡ Second → records_bytes w.records ≡ body_of n
+  pub second_taken : n ≡ Second → records_bytes w.records ≡ body_of n
   unfolding taken
-  second-taken e = sym (ap body_of e)
+  second_taken e = sym (ap body_of e)
 
-  pub both-taken : n ≡ Both → records_bytes w.records ≡ body_of n
+  pub both_taken : n ≡ Both → records_bytes w.records ≡ body_of n
   unfolding taken
-  both-taken e = sym (ap body_of e)
+  both_taken e = sym (ap body_of e)
 
 -- where both sets are there, the one that is taken is the one with the smaller csn; of a set of both the second's is read
-smaller-taken : (n : Next) (v w : WriteSet) → Smaller n v.csn w.csn → taken n v w ≡ next_of v w
+smaller_taken : (n : Next) (v w : WriteSet) → Smaller n v.csn w.csn → taken n v w ≡ next_of v w
 unfolding taken next_of
-smaller-taken First v w h = simp (lt-ltb v.csn w.csn h) refl
-smaller-taken Second v w h = simp (le-ltb v.csn w.csn (omega arith)) refl
-smaller-taken Both v w h = simp (le-ltb v.csn w.csn (omega arith)) refl
+smaller_taken First v w h = simp (lt-ltb v.csn w.csn h) refl
+smaller_taken Second v w h = simp (le-ltb v.csn w.csn (omega arith)) refl
+smaller_taken Both v w h = simp (le-ltb v.csn w.csn (omega arith)) refl
 
 pub taken_next : (a b : Sheet) (i j : ℕ) (n : Next) → Chosen n a i b j → i < length a.sets → j < length b.sets → taken n (set_at a i) (set_at b j) ≡ next_of (set_at a i) (set_at b j)
-taken_next a b i j n k h l = smaller-taken n (set_at a i) (set_at b j) (k.smaller h l)
+taken_next a b i j n k h l = smaller_taken n (set_at a i) (set_at b j) (k.smaller h l)
 
 -- so the taken set's body is that of the one with the smaller csn
 pub both_told : (a b : Sheet) (i j : ℕ) (n : Next) → Chosen n a i b j → {bytes : Bytes} → bytes ≡ records_bytes (taken n (set_at a i) (set_at b j)).records

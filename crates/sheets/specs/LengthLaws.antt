@@ -11,33 +11,33 @@ use Rattle.rules.specs.Refused.{sheet_room}
 use Rattle.sheets.specs.SheetReadings.{head_length, entry_place}
 use Rattle.sheets.specs.SheetLength.{contents_end}
 
-pub no-head : (b : Bytes) → length b < head_length → NoForm ≡ contents_end b
+pub no_head : (b : Bytes) → length b < head_length → NoForm ≡ contents_end b
 unfolding contents_end ◌and◌
-no-head b h = simp (lt-leb head_length (length b) h)
+no_head b h = simp (lt-leb head_length (length b) h)
 
-pub no-contents : (b : Bytes) → head_length ≤ length b → max_sets < get_or b 7 0 → NoForm ≡ contents_end b
+pub no_contents : (b : Bytes) → head_length ≤ length b → max_sets < get_or b 7 0 → NoForm ≡ contents_end b
 unfolding contents_end ◌and◌
-no-contents b h k = simp (le-leb head_length (length b) h, lt-leb (get_or b 7 0) max_sets k)
+no_contents b h k = simp (le-leb head_length (length b) h, lt-leb (get_or b 7 0) max_sets k)
 
-pub head-tells : (b : Bytes) → head_length ≤ length b → get_or b 7 0 ≤ max_sets → Of (entry_place (get_or b 7 0)) ≡ contents_end b
+pub head_tells : (b : Bytes) → head_length ≤ length b → get_or b 7 0 ≤ max_sets → Of (entry_place (get_or b 7 0)) ≡ contents_end b
 unfolding contents_end ◌and◌
-head-tells b h k = simp (le-leb head_length (length b) h, le-leb (get_or b 7 0) max_sets k)
+head_tells b h k = simp (le-leb head_length (length b) h, le-leb (get_or b 7 0) max_sets k)
 
 -- two answers that cannot be one
 same_end : {m n : ℕ} → Of m ≡ Of n → n ≡ m
 same_end e = cc
 
-none-not : {n : ℕ} → NoForm ≡ Of n → ⊥
-none-not e = let z : ◌≡◌ {A = ℕ} 0 1 = cc in omega arith
+none_not : {n : ℕ} → NoForm ≡ Of n → ⊥
+none_not e = let z : ◌≡◌ {A = ℕ} 0 1 = cc in omega arith
 
 -- what a length says of the head
-pub head-told : (b : Bytes) (n : ℕ) → contents_end b ≡ Of n → (head_length ≤ length b) × (get_or b 7 0 ≤ max_sets) × (n ≡ entry_place (get_or b 7 0))
-head-told b n e =
+pub head_told : (b : Bytes) (n : ℕ) → contents_end b ≡ Of n → (head_length ≤ length b) × (get_or b 7 0 ≤ max_sets) × (n ≡ entry_place (get_or b 7 0))
+head_told b n e =
     elim (dec_lt (length b) head_length) [
-      | yes k ↦ absurd (none-not (no-head b k ∙ e))
+      | yes k ↦ absurd (none_not (no_head b k ∙ e))
       | no k ↦ elim (dec_lt max_sets (get_or b 7 0)) [
-        | yes m ↦ absurd (none-not (no-contents b (omega arith) m ∙ e))
-        | no m ↦ (omega arith, omega arith, same_end (head-tells b (omega arith) (omega arith) ∙ e))
+        | yes m ↦ absurd (none_not (no_contents b (omega arith) m ∙ e))
+        | no m ↦ (omega arith, omega arith, same_end (head_tells b (omega arith) (omega arith) ∙ e))
       ]
     ]
 
@@ -46,5 +46,5 @@ abbrev pub ContentsBounds : ℕ → Type 0
 ContentsBounds n = (head_length ≤ n) × (n ≤ sheet_room)
 
 -- CONTENTS THAT ARE TOLD END WITHIN BOUNDS
-pub told-within : (b : Bytes) (n : ℕ) → contents_end b ≡ Of n → ContentsBounds n
-told-within b n e = let w = head-told b n e in (omega (arith, w), omega (arith, w))
+pub told_within : (b : Bytes) (n : ℕ) → contents_end b ≡ Of n → ContentsBounds n
+told_within b n e = let w = head_told b n e in (omega (arith, w), omega (arith, w))

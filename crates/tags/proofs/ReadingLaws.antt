@@ -12,11 +12,11 @@ use lib.ListN.{length, get_or, take}
 use lib.Seq.{take-suc, take_all}
 use Rattle.words.specs.Words.{Bytes}
 use Rattle.rules.specs.Tag.{step, is_digit, digit_of, steps, number, key_in, is_tag, key_of_tag}
-use Rattle.laws.specs.Tests.{not-true-false}
+use Rattle.laws.specs.Tests.{not_true_false}
 use Rattle.laws.specs.Says.{Says, ◌also◌, shaped, each}
-use Rattle.laws.specs.TagRule.{step-below}
-use Rattle.laws.specs.TagDetects.{digit-is, right_is}
-use Rattle.laws.specs.Tags.{key-is as in-range, steps-append}
+use Rattle.laws.specs.TagRule.{step_below}
+use Rattle.laws.specs.TagDetects.{digit_is, right_is}
+use Rattle.laws.specs.Tags.{key_is as in-range, steps_append}
 use Rattle.tags.specs.declared.reading.Tagged.TheVariants.{Key, Bad}
 use Rattle.tags.specs.Tagged.{tagged_of}
 
@@ -29,27 +29,27 @@ pub record Right (t : Bytes) : Type 0 where
   pub low : 1 ≤ key_in t
   pub high : key_in t < 4294967296
 
-right-says : (t : Bytes) → Says (is_tag t) (Right t)
+right_says : (t : Bytes) → Says (is_tag t) (Right t)
 unfolding is_tag
-right-says t =
+right_says t =
     shaped
     (λ r. record {
       long = r.0.0;
-      digit = λ k l. (digit-is (get_or t k 0)).told ((each is_digit 0 t).told r.0.1.0 k l);
+      digit = λ k l. (digit_is (get_or t k 0)).told ((each is_digit 0 t).told r.0.1.0 k l);
       check = r.0.1.1;
       low = r.1.0;
       high = r.1.1;
     })
-    (λ r. ((r.long, ((each is_digit 0 t).test (λ k l. (digit-is (get_or t k 0)).test (r.digit k l)), r.check)), (r.low, r.high)))
+    (λ r. ((r.long, ((each is_digit 0 t).test (λ k l. (digit_is (get_or t k 0)).test (r.digit k l)), r.check)), (r.low, r.high)))
     (right_is t also in-range (key_in t))
 
 pub refused : (t : Bytes) → (Right t → ⊥) → Bad ≡ tagged_of (key_of_tag t)
 unfolding key_of_tag tagged_of
-refused t h = simp (not-true-false (λ e. h ((right-says t).told e)))
+refused t h = simp (not_true_false (λ e. h ((right_says t).told e)))
 
 pub has_key : (t : Bytes) → Right t → key_of_tag t ≡ some (key_in t)
 unfolding key_of_tag
-has_key t r = simp ((right-says t).test r)
+has_key t r = simp ((right_says t).test r)
 
 pub accepted : (t : Bytes) → Right t → Key (key_in t) ≡ tagged_of (key_of_tag t)
 unfolding tagged_of
@@ -87,9 +87,9 @@ module _ (t : Bytes) (interim key i : ℕ) (r : Reading t interim key i) where
       let e : take (i + 1) t ≡ take i t ++ (get_or t i 0 ∷ []) = rw (add-one i) (take-suc t i 0 m) in
       let d : get_or t i 0 - 48 < 10 = omega arith in (
         omega arith,
-        sym (ap (steps 0) e ∙ steps-append 0 (take i t) (get_or t i 0 ∷ []) ∙ ap (λ (n : ℕ). step n (get_or t i 0 - 48)) (sym r.1)),
+        sym (ap (steps 0) e ∙ steps_append 0 (take i t) (get_or t i 0 ∷ []) ∙ ap (λ (n : ℕ). step n (get_or t i 0 - 48)) (sym r.1)),
         sym (ap (number 0) e ∙ number_append 0 (take i t) (get_or t i 0 ∷ []) ∙ ap (λ (n : ℕ). n * 10 + (get_or t i 0 - 48)) (sym r.2)),
-        step-below interim (get_or t i 0 - 48) r.3 d,
+        step_below interim (get_or t i 0 - 48) r.3 d,
         rw (add-one i, pow-suc 10 i) (omega (arith, r.4)),
         below_more (λ k. (48 ≤ get_or t k 0) × (get_or t k 0 ≤ 57)) i r.5 (l, u),
       )
@@ -99,25 +99,25 @@ module _ (t : Bytes) (interim key i : ℕ) (r : Reading t interim key i) where
     ten : i ≡ 10
     ten = let a = r.0 in omega arith
 
-    pub key-is : key ≡ key_in t
+    pub key_is : key ≡ key_in t
     unfolding key_in
-    key-is = r.2 ∙ ap (λ (n : ℕ). number 0 (take n t)) ten
+    key_is = r.2 ∙ ap (λ (n : ℕ). number 0 (take n t)) ten
 
-    pub check-is : step interim (get_or t 10 0 - 48) ≡ steps 0 t
+    pub check_is : step interim (get_or t 10 0 - 48) ≡ steps 0 t
     unfolding steps
-    check-is =
+    check_is =
         let e : take 11 t ≡ take 10 t ++ (get_or t 10 0 ∷ []) = take-suc t 10 0 (omega arith) in
         let w : take 11 t ≡ t = take_all 11 t (omega arith) in
         let a : interim ≡ steps 0 (take 10 t) = r.1 ∙ ap (λ (n : ℕ). steps 0 (take n t)) ten in
-        ap (λ (n : ℕ). step n (get_or t 10 0 - 48)) a ∙ sym (steps-append 0 (take 10 t) (get_or t 10 0 ∷ [])) ∙ ap (steps 0) (sym e ∙ w)
+        ap (λ (n : ℕ). step n (get_or t 10 0 - 48)) a ∙ sym (steps_append 0 (take 10 t) (get_or t 10 0 ∷ [])) ∙ ap (steps 0) (sym e ∙ w)
 
     pub finished : 48 ≤ get_or t 10 0 → get_or t 10 0 ≤ 57 → step interim (get_or t 10 0 - 48) ≡ 0 → (key ≡ 0 → ⊥) → key < 4294967296 → Right t
     finished l u c z h =
-        let k = key-is in
+        let k = key_is in
         record {
           long = long;
           digit = λ k m. below_more (λ k. (48 ≤ get_or t k 0) × (get_or t k 0 ≤ 57)) 10 (rw ten at r.5) (l, u) k (omega arith);
-          check = sym check-is ∙ c;
+          check = sym check_is ∙ c;
           low = omega arith;
           high = omega arith;
         }

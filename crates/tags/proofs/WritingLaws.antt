@@ -9,7 +9,7 @@ use lib.Dec.{lit<}
 use lib.ListN.{length, set, length-set}
 use Rattle.words.specs.Words.{Bytes, stored}
 use Rattle.rules.specs.Tag.{step, digit_of, steps, digits, check_digit, tag_of}
-use Rattle.laws.specs.TagRule.{step-below}
+use Rattle.laws.specs.TagRule.{step_below}
 
 -- n digits of k behind others that led to an interim digit, and the check digit
 unfoldable pub checked : ℕ → ℕ → ℕ → Bytes
@@ -25,13 +25,13 @@ Writing key out₀ out weight interim i =
     × (length out ≡ length out₀)
     × (stored out i (checked interim (10 - i) key) ≡ stored out₀ 0 (tag_of key))
 
-pub write-start : (key : ℕ) (out₀ : Bytes) → Writing key out₀ out₀ 10000000000 0 0
+pub write_start : (key : ℕ) (out₀ : Bytes) → Writing key out₀ out₀ 10000000000 0 0
 unfolding tag_of checked check_digit
-write-start key out₀ = (omega arith, omega arith, refl, refl, refl)
+write_start key out₀ = (omega arith, omega arith, refl, refl, refl)
 
-checked-more : (interim n k : ℕ) → checked interim (suc n) k ≡ (48 + k / 10 ^ n % 10) ∷ checked (step interim (k / 10 ^ n % 10)) n k
+checked_more : (interim n k : ℕ) → checked interim (suc n) k ≡ (48 + k / 10 ^ n % 10) ∷ checked (step interim (k / 10 ^ n % 10)) n k
 unfolding checked digits steps
-checked-more interim n k =
+checked_more interim n k =
     let q : digit_of (48 + k / 10 ^ n % 10) ≡ k / 10 ^ n % 10 = omega arith in
     ap (λ (d : ℕ). (48 + k / 10 ^ n % 10) ∷ (digits n k ++ (48 + steps (step interim d) (digits n k)) ∷ [])) q
 
@@ -42,27 +42,27 @@ module _ (key : ℕ) (out₀ out : Bytes) (weight interim i : ℕ) (w : Writing 
       let e : weight ≡ 10 ^ (10 - (i + 1)) * 10 = w.2 ∙ ap (λ (m : ℕ). 10 ^ m) n ∙ pow-suc 10 (10 - (i + 1)) in
       omega arith
 
-  pub some-weight : i < 10 → 0 < weight / 10
-  some-weight h = rw (weigh h) (one-le-pow (10 - (i + 1)) 10 (lit< tt))
+  pub some_weight : i < 10 → 0 < weight / 10
+  some_weight h = rw (weigh h) (one-le-pow (10 - (i + 1)) 10 (lit< tt))
 
-  pub write-more : i < 10 → Writing key out₀ (set out i (48 + key / (weight / 10) % 10)) (weight / 10) (step interim (key / (weight / 10) % 10)) (i + 1)
+  pub write_more : i < 10 → Writing key out₀ (set out i (48 + key / (weight / 10) % 10)) (weight / 10) (step interim (key / (weight / 10) % 10)) (i + 1)
   unfolding stored
-  write-more h =
+  write_more h =
       let n : 10 - i ≡ suc (10 - (i + 1)) = omega arith in
       let e = weigh h in
       let s : checked interim (10 - i) key ≡ (48 + key / 10 ^ (10 - (i + 1)) % 10) ∷ checked (step interim (key / 10 ^ (10 - (i + 1)) % 10)) (10 - (i + 1)) key =
-      ap (λ (m : ℕ). checked interim m key) n ∙ checked-more interim (10 - (i + 1)) key in
+      ap (λ (m : ℕ). checked interim m key) n ∙ checked_more interim (10 - (i + 1)) key in
       rw e (
         omega arith,
-        step-below interim (key / 10 ^ (10 - (i + 1)) % 10) w.1 (omega arith),
+        step_below interim (key / 10 ^ (10 - (i + 1)) % 10) w.1 (omega arith),
         refl,
         simp length-set w.3,
         ap (λ (m : ℕ). stored (set out i (48 + key / 10 ^ (10 - (i + 1)) % 10)) m (checked (step interim (key / 10 ^ (10 - (i + 1)) % 10)) (10 - (i + 1)) key)) (add-one i)
             ∙ (rw s at w.4),
       )
 
-  pub write-last : 10 ≤ i → set out 10 (48 + interim) ≡ stored out₀ 0 (tag_of key)
+  pub write_last : 10 ≤ i → set out 10 (48 + interim) ≡ stored out₀ 0 (tag_of key)
   unfolding stored checked digits steps
-  write-last h =
+  write_last h =
       let t : i ≡ 10 = omega (arith, w.0) in
       rw t at w.4

@@ -9,27 +9,27 @@ use lib.ListN.{length, length-append}
 use lib.Dec.{ltb}
 use Rattle.words.specs.Words.{Bytes}
 use Rattle.rules.specs.Sheet.{Sheet, max_sets, sheet_in}
-use Rattle.laws.specs.Merging.{distinct-le}
+use Rattle.laws.specs.Merging.{distinct_le}
 use Rattle.laws.specs.Joining.{together}
-use Rattle.sheets.specs.SheetSizes.{few-sets}
+use Rattle.sheets.specs.SheetSizes.{few_sets}
 use Rattle.walk.specs.declared.place.Place.{Place}
 use Rattle.walk.specs.Walk.{unpassed, behind, TwoSheets, At, Ahead, Advanced}
 use Rattle.walk.specs.Walks.{start}
 
-pub start-unpassed : (a b : Sheet) → a.sets ++ b.sets ≡ unpassed a b start
+pub start_unpassed : (a b : Sheet) → a.sets ++ b.sets ≡ unpassed a b start
 unfolding unpassed
-start-unpassed a b = refl
+start_unpassed a b = refl
 
 -- there are at most as many sets as two sheets have
-pub together-few : (a b : Bytes) → TwoSheets a b → length (together (sheet_in a) (sheet_in b)) ≤ 2 * max_sets
+pub together_few : (a b : Bytes) → TwoSheets a b → length (together (sheet_in a) (sheet_in b)) ≤ 2 * max_sets
 unfolding together
-together-few a b k =
+together_few a b k =
     omega (
       arith,
-      distinct-le ((sheet_in a).sets ++ (sheet_in b).sets),
+      distinct_le ((sheet_in a).sets ++ (sheet_in b).sets),
       length-append (sheet_in a).sets (sheet_in b).sets,
-      few-sets a k.one,
-      few-sets b k.two,
+      few_sets a k.one,
+      few_sets b k.two,
     )
 
 -- what `more` said

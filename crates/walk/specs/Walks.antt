@@ -6,7 +6,7 @@ use Rattle.rules.specs.Sheet.{WriteSet, Sheet, max_sets}
 use Rattle.laws.specs.Joining.{together}
 use Rattle.sheets.specs.declared.reading.Next.{Next}
 use Rattle.sheets.specs.SheetReadings.{no_set}
-use Rattle.sheets.specs.SheetSizes.{few-sets}
+use Rattle.sheets.specs.SheetSizes.{few_sets}
 use Rattle.walk.specs.declared.place.Place.{Place}
 use Rattle.walk.specs.Walk.{unpassed, behind, passed, TwoSheets, At, Advanced, Decided}
 
@@ -18,16 +18,16 @@ from xs i h = drop-cons xs i no_set h ∙ ap (λ (k : ℕ). get_or xs i no_set �
 abbrev pub start : Place
 start = record { i = 0; j = 0 }
 
-pub start-at : (a b : Bytes) → TwoSheets a b → At a b start
-start-at a b k = record { one = k.one; two = k.two; first = omega arith; second = omega arith }
+pub start_at : (a b : Bytes) → TwoSheets a b → At a b start
+start_at a b k = record { one = k.one; two = k.two; first = omega arith; second = omega arith }
 
-pub start-behind : (a b : Sheet) → behind a b start ≡ together a b
+pub start_behind : (a b : Sheet) → behind a b start ≡ together a b
 unfolding behind unpassed together
-start-behind a b = refl
+start_behind a b = refl
 
 -- so that advancing does not overflow
 pub near : (a b : Bytes) (p : Place) → At a b p → (p.i ≤ max_sets) × (p.j ≤ max_sets)
-near a b p k = (omega (arith, k.first, few-sets a k.one), omega (arith, k.second, few-sets b k.two))
+near a b p k = (omega (arith, k.first, few_sets a k.one), omega (arith, k.second, few_sets b k.two))
 
 -- what advancing by a decision passes
 pub moved : (a b : Bytes) {p q : Place} {n : Next} → Decided a b p n → q ≡ passed p n → Advanced a b p q

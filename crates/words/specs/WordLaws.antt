@@ -11,11 +11,11 @@ use Rattle.words.specs.Words.{Bytes, le, word, part, stored}
 
 -- ---- reading
 
-pub word-add : (m n : ℕ) (s : Bytes) (at : ℕ) → word (m + n) s at ≡ word m s at + 256 ^ m * word n s (at + m)
+pub word_add : (m n : ℕ) (s : Bytes) (at : ℕ) → word (m + n) s at ≡ word m s at + 256 ^ m * word n s (at + m)
 unfolding word
-word-add zero n s at = simp (zero-add, add-zero, one-mul)
-word-add (suc m) n s at =
-    simp (suc-add, word-add m n s (suc at), add-suc, pow-succ', mul-add, mul_assoc, add_assoc)
+word_add zero n s at = simp (zero-add, add-zero, one-mul)
+word_add (suc m) n s at =
+    simp (suc-add, word_add m n s (suc at), add-suc, pow-succ', mul-add, mul_assoc, add_assoc)
 
 -- a word depends on its own bytes alone
 pub word_same : (n : ℕ) (s t : Bytes) (at : ℕ) → ((k : ℕ) → at ≤ k → k < at + n → get_or s k 0 ≡ get_or t k 0) → word n s at ≡ word n t at
@@ -25,35 +25,35 @@ word_same (suc n) s t at h =
     rw (h at (omega arith) (omega arith), word_same n s t (suc at) (λ k a b. h k (omega arith) (omega arith)))
 
 -- a word in a part of a list, and behind a list
-pub word-drop : (n k : ℕ) (s : Bytes) (at : ℕ) → word n (drop k s) at ≡ word n s (k + at)
+pub word_drop : (n k : ℕ) (s : Bytes) (at : ℕ) → word n (drop k s) at ≡ word n s (k + at)
 unfolding word
-word-drop zero k s at = refl
-word-drop (suc n) k s at = rw (get_or-drop, word-drop n k s (suc at), add-suc)
+word_drop zero k s at = refl
+word_drop (suc n) k s at = rw (get_or-drop, word_drop n k s (suc at), add-suc)
 
 -- ---- writing
 
-pub le-length : (n x : ℕ) → length (le n x) ≡ n
+pub le_length : (n x : ℕ) → length (le n x) ≡ n
 unfolding le
-le-length zero x = refl
-le-length (suc n) x = ap suc (le-length n (x / 256))
+le_length zero x = refl
+le_length (suc n) x = ap suc (le_length n (x / 256))
 
-pub le-add : (m n x : ℕ) → le (m + n) x ≡ le m x ++ le n (x / 256 ^ m)
+pub le_add : (m n x : ℕ) → le (m + n) x ≡ le m x ++ le n (x / 256 ^ m)
 unfolding le
-le-add zero n x = rw (zero-add, div-one)
-le-add (suc m) n x = rw (suc-add, pow-succ', ← div-div-eq-div-mul) (ap (λ (l : Bytes). x % 256 ∷ l) (le-add m n (x / 256)))
+le_add zero n x = rw (zero-add, div-one)
+le_add (suc m) n x = rw (suc-add, pow-succ', ← div-div-eq-div-mul) (ap (λ (l : Bytes). x % 256 ∷ l) (le_add m n (x / 256)))
 
-pub le-mod : (n x : ℕ) → le n (x % 256 ^ n) ≡ le n x
+pub le_mod : (n x : ℕ) → le n (x % 256 ^ n) ≡ le n x
 unfolding le
-le-mod zero x = refl
-le-mod (suc n) x =
+le_mod zero x = refl
+le_mod (suc n) x =
     let e : x % 256 ^ suc n ≡ (x / 256 % 256 ^ n) * 256 + x % 256 = rw pow-suc (mod-mul x (one-le-pow n 256 (lit< tt)) (lit< tt)) in
     let low : x % 256 ^ suc n % 256 ≡ x % 256 = omega arith in
     let high : x % 256 ^ suc n / 256 ≡ x / 256 % 256 ^ n = omega arith in
-    rw (low, high) (ap (λ (l : Bytes). x % 256 ∷ l) (le-mod n (x / 256)))
+    rw (low, high) (ap (λ (l : Bytes). x % 256 ∷ l) (le_mod n (x / 256)))
 
-pub length-stored : (l : Bytes) (at : ℕ) (bs : Bytes) → length (stored l at bs) ≡ length l
+pub length_stored : (l : Bytes) (at : ℕ) (bs : Bytes) → length (stored l at bs) ≡ length l
 unfolding stored
-length-stored l at bs = length-sets l at bs
+length_stored l at bs = length-sets l at bs
 
 -- bytes stored where the bytes before them end
 -- nothing stored changes nothing
@@ -61,77 +61,77 @@ pub nothing_stored : (l : Bytes) (at : ℕ) → l ≡ stored l at []
 unfolding stored
 nothing_stored l at = refl
 
-pub stored-append : (l : Bytes) (at : ℕ) (xs ys : Bytes) → stored l at (xs ++ ys) ≡ stored (stored l at xs) (at + length xs) ys
+pub stored_append : (l : Bytes) (at : ℕ) (xs ys : Bytes) → stored l at (xs ++ ys) ≡ stored (stored l at xs) (at + length xs) ys
 unfolding stored
-stored-append l at [] ys = rw add-zero
-stored-append l at (x ∷ xs) ys = rw (add-suc, ← suc-add at (length xs)) (stored-append (set l at x) (suc at) xs ys)
+stored_append l at [] ys = rw add-zero
+stored_append l at (x ∷ xs) ys = rw (add-suc, ← suc-add at (length xs)) (stored_append (set l at x) (suc at) xs ys)
 
-pub then-stored : (l₀ : Bytes) {l₁ l₂ : Bytes} (at k : ℕ) (xs ys : Bytes) → l₁ ≡ stored l₀ at xs → l₂ ≡ stored l₁ k ys → k ≡ at + length xs → l₂ ≡ stored l₀ at (xs ++ ys)
-then-stored l₀ at k xs ys p q e = q ∙ rw (p, e) (sym (stored-append l₀ at xs ys))
+pub then_stored : (l₀ : Bytes) {l₁ l₂ : Bytes} (at k : ℕ) (xs ys : Bytes) → l₁ ≡ stored l₀ at xs → l₂ ≡ stored l₁ k ys → k ≡ at + length xs → l₂ ≡ stored l₀ at (xs ++ ys)
+then_stored l₀ at k xs ys p q e = q ∙ rw (p, e) (sym (stored_append l₀ at xs ys))
 
 -- bytes stored at the front, with the rest behind them
-pub stored-front : (l bs : Bytes) → length bs ≤ length l → stored l 0 bs ≡ bs ++ drop (length bs) l
+pub stored_front : (l bs : Bytes) → length bs ≤ length l → stored l 0 bs ≡ bs ++ drop (length bs) l
 unfolding stored
-stored-front l bs h = sets-eq bs l 0 (omega arith) ∙ rw (zero-add (length bs))
+stored_front l bs h = sets-eq bs l 0 (omega arith) ∙ rw (zero-add (length bs))
 
 -- a word of m + m bytes, written by its halves
 pub halves : (m : ℕ) (l₀ l₁ l₂ : Bytes) (at x : ℕ) → l₁ ≡ stored l₀ at (le m (x % 256 ^ m)) → l₂ ≡ stored l₁ (at + m) (le m (x / 256 ^ m)) → l₂ ≡ stored l₀ at (le (m + m) x)
 halves m l₀ l₁ l₂ at x p q =
-    then-stored l₀ at (at + m) (le m x) (le m (x / 256 ^ m)) (p ∙ ap (stored l₀ at) (le-mod m x)) q (ap (λ (k : ℕ). at + k) (sym (le-length m x)))
-    ∙ ap (stored l₀ at) (sym (le-add m m x))
+    then_stored l₀ at (at + m) (le m x) (le m (x / 256 ^ m)) (p ∙ ap (stored l₀ at) (le_mod m x)) q (ap (λ (k : ℕ). at + k) (sym (le_length m x)))
+    ∙ ap (stored l₀ at) (sym (le_add m m x))
 
 -- ---- what was written is read back, and nothing else changed
 
-pub stored-below : (l : Bytes) (at : ℕ) (bs : Bytes) (j : ℕ) → j < at → get_or (stored l at bs) j 0 ≡ get_or l j 0
+pub stored_below : (l : Bytes) (at : ℕ) (bs : Bytes) (j : ℕ) → j < at → get_or (stored l at bs) j 0 ≡ get_or l j 0
 unfolding stored
-stored-below l at [] j h = refl
-stored-below l at (b ∷ bs) j h = stored-below (set l at b) (suc at) bs j (omega arith) ∙ get_or-set_other l at j b 0 (λ e. omega arith)
+stored_below l at [] j h = refl
+stored_below l at (b ∷ bs) j h = stored_below (set l at b) (suc at) bs j (omega arith) ∙ get_or-set_other l at j b 0 (λ e. omega arith)
 
-pub stored-above : (l : Bytes) (at : ℕ) (bs : Bytes) (j : ℕ) → at + length bs ≤ j → get_or (stored l at bs) j 0 ≡ get_or l j 0
+pub stored_above : (l : Bytes) (at : ℕ) (bs : Bytes) (j : ℕ) → at + length bs ≤ j → get_or (stored l at bs) j 0 ≡ get_or l j 0
 unfolding stored
-stored-above l at [] j h = refl
-stored-above l at (b ∷ bs) j h = stored-above (set l at b) (suc at) bs j (omega arith) ∙ get_or-set_other l at j b 0 (λ e. omega arith)
+stored_above l at [] j h = refl
+stored_above l at (b ∷ bs) j h = stored_above (set l at b) (suc at) bs j (omega arith) ∙ get_or-set_other l at j b 0 (λ e. omega arith)
 
 -- WHAT WAS WRITTEN IS READ BACK
-pub word-stored : (n : ℕ) (l : Bytes) (at x : ℕ) → at + n ≤ length l → x < 256 ^ n → word n (stored l at (le n x)) at ≡ x
+pub word_stored : (n : ℕ) (l : Bytes) (at x : ℕ) → at + n ≤ length l → x < 256 ^ n → word n (stored l at (le n x)) at ≡ x
 unfolding word le
-word-stored zero l at x h k = omega arith
-word-stored (suc n) l at x h k =
+word_stored zero l at x h k = omega arith
+word_stored (suc n) l at x h k =
     let k' : x / 256 < 256 ^ n = omega (arith, rw pow-suc at k) in
     let room : suc at + n ≤ length (set l at (x % 256)) = simp length-set (omega arith) in
     let split : stored l at (x % 256 ∷ le n (x / 256)) ≡ stored (set l at (x % 256)) (suc at) (le n (x / 256)) = unfold stored in refl in
     rw (
       split,
-      stored-below (set l at (x % 256)) (suc at) (le n (x / 256)) at (omega arith),
+      stored_below (set l at (x % 256)) (suc at) (le n (x / 256)) at (omega arith),
       get_or-set_same l at (x % 256) 0 (omega arith),
-      word-stored n (set l at (x % 256)) (suc at) (x / 256) room k',
+      word_stored n (set l at (x % 256)) (suc at) (x / 256) room k',
     )
     (omega arith)
 
 -- a word before or after what was stored
 pub word_below : (n : ℕ) (l : Bytes) (at : ℕ) (bs : Bytes) (j : ℕ) → j + n ≤ at → word n (stored l at bs) j ≡ word n l j
-word_below n l at bs j h = word_same n (stored l at bs) l j (λ k a b. stored-below l at bs k (omega arith))
+word_below n l at bs j h = word_same n (stored l at bs) l j (λ k a b. stored_below l at bs k (omega arith))
 
-pub word-above : (n : ℕ) (l : Bytes) (at : ℕ) (bs : Bytes) (j : ℕ) → at + length bs ≤ j → word n (stored l at bs) j ≡ word n l j
-word-above n l at bs j h = word_same n (stored l at bs) l j (λ k a b. stored-above l at bs k (omega arith))
+pub word_above : (n : ℕ) (l : Bytes) (at : ℕ) (bs : Bytes) (j : ℕ) → at + length bs ≤ j → word n (stored l at bs) j ≡ word n l j
+word_above n l at bs j h = word_same n (stored l at bs) l j (λ k a b. stored_above l at bs k (omega arith))
 
 -- a number that fits comes back from its bytes
-pub word-le : (n x : ℕ) → x < 256 ^ n → word n (le n x) 0 ≡ x
+pub word_le : (n x : ℕ) → x < 256 ^ n → word n (le n x) 0 ≡ x
 unfolding word le
-word-le zero x h = omega arith
-word-le (suc n) x h =
+word_le zero x h = omega arith
+word_le (suc n) x h =
     let k : x / 256 < 256 ^ n = omega (arith, rw pow-suc at h) in
-    let e : word n (x % 256 ∷ le n (x / 256)) 1 ≡ word n (le n (x / 256)) 0 = sym (word-drop n 1 (x % 256 ∷ le n (x / 256)) 0) in
-    rw (e, word-le n (x / 256) k) (omega arith)
+    let e : word n (x % 256 ∷ le n (x / 256)) 1 ≡ word n (le n (x / 256)) 0 = sym (word_drop n 1 (x % 256 ∷ le n (x / 256)) 0) in
+    rw (e, word_le n (x / 256) k) (omega arith)
 
 -- and the bytes from the number that they stand for
-pub le-word : (n : ℕ) (s : Bytes) (at : ℕ) → at + n ≤ length s → ((k : ℕ) → get_or s k 0 < 256) → le n (word n s at) ≡ part s at n
+pub le_word : (n : ℕ) (s : Bytes) (at : ℕ) → at + n ≤ length s → ((k : ℕ) → get_or s k 0 < 256) → le n (word n s at) ≡ part s at n
 unfolding word le part
-le-word zero s at h b = refl
-le-word (suc n) s at h b =
+le_word zero s at h b = refl
+le_word (suc n) s at h b =
     let low : (get_or s at 0 + 256 * word n s (suc at)) % 256 ≡ get_or s at 0 = omega (arith, b at) in
     let high : (get_or s at 0 + 256 * word n s (suc at)) / 256 ≡ word n s (suc at) = omega (arith, b at) in
-    rw (low, high, drop-cons s at 0 (omega arith), le-word n s (suc at) (omega arith) b)
+    rw (low, high, drop-cons s at 0 (omega arith), le_word n s (suc at) (omega arith) b)
 
 pub word_fits : (n : ℕ) (s : Bytes) (at : ℕ) → ((k : ℕ) → get_or s k 0 < 256) → word n s at < 256 ^ n
 unfolding word

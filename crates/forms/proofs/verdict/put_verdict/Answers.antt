@@ -2,7 +2,7 @@
 use Rattle.std.proofs.Common.{◌∙◌, length-set, add-one, arith}
 use Rattle.words.specs.Words.{stored}
 use Rattle.rules.specs.Refused.{verdict_bytes}
-use Rattle.forms.proofs.VerdictStored.{verdict-added}
+use Rattle.forms.proofs.VerdictStored.{verdict_added}
 use Rattle.forms.proofs.verdict.put_verdict.Goals as goal
 
 pub put32-requires : goal.put32-requires
@@ -10,4 +10,4 @@ put32-requires c = simp length-set (omega arith)
 
 pub returns : goal.returns
 unfolding stored verdict_bytes
-returns c = verdict-added _ _ _ (c.put32.ensures ∙ simp (c.code.ensures, c.key.ensures, add-one))
+returns c = verdict_added _ _ _ (c.put32.ensures ∙ simp (c.code.ensures, c.key.ensures, add-one))

@@ -1,6 +1,6 @@
 -- Head, entry and body, each where the one before it ends.
 use Rattle.std.proofs.Common.{arith}
-use Rattle.gather.proofs.OneLaws.{offered, set-held}
+use Rattle.gather.proofs.OneLaws.{offered, set_held}
 use Rattle.gather.proofs.one.one_set.Goals as goal
 
 pub put_entry-requires : goal.put_entry-requires
@@ -14,4 +14,4 @@ length_with-requires c = (omega arith, omega (arith, c.offered_count-n.ensures, 
 
 pub returns : goal.returns
 returns c = rw c.length_with.ensures
-    (set-held _ _ _ _ _ _ _ c.requires.0 (offered _ c.requires.1) c.offered_count-n.ensures c.put_sheet_start.ensures c.put_no_notices.ensures c.put_entry.ensures c.put_body.ensures)
+    (set_held _ _ _ _ _ _ _ c.requires.0 (offered _ c.requires.1) c.offered_count-n.ensures c.put_sheet_start.ensures c.put_no_notices.ensures c.put_entry.ensures c.put_body.ensures)

@@ -1,7 +1,7 @@
 -- What is joined so far is a sheet; a turn less is left.
 use Rattle.std.proofs.Common.{rules}
 use Rattle.input.specs.Reading.{sheet}
-use Rattle.input.proofs.ReadLaws.{came-sheet, came_refused, holds_as}
+use Rattle.input.proofs.ReadLaws.{came_sheet, came_refused, holds_as}
 use Rattle.input.proofs.join.join_rest.Goals as goal
 
 pub returns-in-Ended : goal.returns-in-Ended
@@ -11,7 +11,7 @@ pub returns-in-Refused : goal.returns-in-Refused
 returns-in-Refused c = came_refused _ _ c.join_next.ensures.0 c.in-Refused.is
 
 pub loop-left-preserved : goal.loop-left-preserved
-loop-left-preserved c = (search rules, came-sheet _ c.join_next.ensures.0 c.in-Sheet.is)
+loop-left-preserved c = (search rules, came_sheet _ c.join_next.ensures.0 c.in-Sheet.is)
 
 pub returns : goal.returns
 returns c = sheet

@@ -1,6 +1,6 @@
 -- The bodies that the contents tell of.
 use Rattle.std.proofs.Common.{arith, length-take}
-use Rattle.laws.specs.Says.{said-yes}
+use Rattle.laws.specs.Says.{said_yes}
 use Rattle.input.specs.Reading.{sheet}
 use Rattle.input.proofs.reading.read_bodies.Goals as goal
 
@@ -26,4 +26,4 @@ pub returns-then-not-is_sheet : goal.returns-then-not-is_sheet
 returns-then-not-is_sheet c = sheet
 
 pub returns : goal.returns
-returns c = record { within = omega arith; examined = said-yes c.is_sheet.ensures c.if-not-is_sheet.false-raw }
+returns c = record { within = omega arith; examined = said_yes c.is_sheet.ensures c.if-not-is_sheet.false-raw }

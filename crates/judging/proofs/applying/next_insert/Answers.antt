@@ -1,13 +1,13 @@
 -- The least of the keys that the committed sets before set i insert.
 use Rattle.std.proofs.Common.{◌≡◌, sym, ◌∙◌, arith, length, rules}
 use Rattle.rules.specs.Sheet.{sheet_in}
-use Rattle.sheets.specs.SheetSizes.{few-sets}
-use Rattle.judging.proofs.InsertLaws.{inserts-none, inserts-more, inserts-same}
+use Rattle.sheets.specs.SheetSizes.{few_sets}
+use Rattle.judging.proofs.InsertLaws.{inserts_none, inserts_more, inserts_same}
 use Rattle.judging.proofs.applying.next_insert.Goals as goal
 use Rattle.judging.proofs.applying.next_insert.Goals.{then-none_at, else-none_at}
 
 pub loop-i-init : goal.loop-i-init
-loop-i-init c = (omega arith, omega (arith, few-sets _ c.requires.0), inserts-none _ _ _)
+loop-i-init c = (omega arith, omega (arith, few_sets _ c.requires.0), inserts_none _ _ _)
 
 pub insert_in-requires : goal.insert_in-requires
 insert_in-requires c = (search rules, omega arith)
@@ -19,8 +19,8 @@ loop-i-preserved c = let a = c.args in
       omega arith,
       l.invariant.1,
       elim c.if-none_at.branch [
-        | then-none_at w ↦ rw (w.least-is ∙ w.smaller-least.ensures) (inserts-more s a.lost.now l.i a.after l.least w.insert_in.result (sym c.none_at.ensures ∙ w.if-none_at.true) l.invariant.2 w.insert_in.ensures)
-        | else-none_at w ↦ rw w.least-is (inserts-same s a.lost.now l.i a.after l.least (sym c.none_at.ensures ∙ w.if-none_at.false) l.invariant.2)
+        | then-none_at w ↦ rw (w.least-is ∙ w.smaller-least.ensures) (inserts_more s a.lost.now l.i a.after l.least w.insert_in.result (sym c.none_at.ensures ∙ w.if-none_at.true) l.invariant.2 w.insert_in.ensures)
+        | else-none_at w ↦ rw w.least-is (inserts_same s a.lost.now l.i a.after l.least (sym c.none_at.ensures ∙ w.if-none_at.false) l.invariant.2)
       ],
     )
 

@@ -4,15 +4,15 @@ use Rattle.rules.specs.declared.row.Record.{Record}
 use Rattle.rules.specs.Register.{register_in}
 use Rattle.rules.specs.Sheet.{sheet_in, record_key}
 use Rattle.rules.specs.Closing.{fit_record, first_wrong}
-use Rattle.laws.specs.RegisterLaws.{register-sound}
+use Rattle.laws.specs.RegisterLaws.{register_sound}
 use Rattle.sheets.specs.SheetReadings.{set_at}
-use Rattle.sheets.specs.SheetMembers.{records-sound}
+use Rattle.sheets.specs.SheetMembers.{records_sound}
 use Rattle.judging.specs.declared.key.FirstKey.TheVariants.{Key}
 use Rattle.judging.specs.Answers.{first_key}
-use Rattle.judging.proofs.InOrder.{larger-record}
+use Rattle.judging.proofs.InOrder.{larger_record}
 use Rattle.judging.specs.Tables.{wrong_key}
 use Rattle.judging.proofs.Firsts.{skips, stops, ends}
-use Rattle.judging.proofs.FitLaws.{Walked, walked-nowhere, walked-there, fits-there, wrong-there, fits-nowhere, wrong-nowhere}
+use Rattle.judging.proofs.FitLaws.{Walked, walked_nowhere, walked_there, fits_there, wrong_there, fits_nowhere, wrong_nowhere}
 use Rattle.judging.proofs.fit.wrong_key.Goals as goal
 use Rattle.judging.proofs.fit.wrong_key.Goals.{else-rows-test, then-rows-test+then-key-row, then-rows-test+else-key-row+then-key-row-2+else-kind-eq-INSERT}
 use Rattle.judging.proofs.fit.wrong_key.Goals.{then-not-present+else-kind-ne-INSERT, else-not-present}
@@ -43,18 +43,18 @@ records-preserved c =
     let o = c.records in
     let l = c.rows in
     let k : Walked g r l.at c.rows-test.present = elim c.rows-test.branch [
-      | else-rows-test w ↦ walked-nowhere g r l.at (w.present-is ∙ l.invariant.1) (record { before = l.invariant.2; there = λ h. absurd (omega arith) })
-      | then-rows-test+then-key-row w ↦ walked-nowhere g r l.at (w.present-is ∙ l.invariant.1) (record { before = l.invariant.2; there = λ h. omega arith })
-      | then-rows-test+else-key-row+then-key-row-2+else-kind-eq-INSERT w ↦ walked-there g r l.at w.present-is (omega arith) (sym w.row_key-row.ensures ∙ sym w.if-key-row-2.true) w.if-kind-eq-INSERT.false
+      | else-rows-test w ↦ walked_nowhere g r l.at (w.present-is ∙ l.invariant.1) (record { before = l.invariant.2; there = λ h. absurd (omega arith) })
+      | then-rows-test+then-key-row w ↦ walked_nowhere g r l.at (w.present-is ∙ l.invariant.1) (record { before = l.invariant.2; there = λ h. omega arith })
+      | then-rows-test+else-key-row+then-key-row-2+else-kind-eq-INSERT w ↦ walked_there g r l.at w.present-is (omega arith) (sym w.row_key-row.ensures ∙ sym w.if-key-row-2.true) w.if-kind-eq-INSERT.false
     ] in
     let fits : fit_record g r ≡ true = elim c.if-not-present.branch [
-      | then-not-present+else-kind-ne-INSERT w ↦ fits-nowhere _ _ l.at (register-sound _ c.requires.0) (k.nowhere w.if-not-present.true) w.if-kind-ne-INSERT.false
-      | else-not-present w ↦ let t = k.there w.if-not-present.false in fits-there _ _ l.at t.0 t.1 t.2
+      | then-not-present+else-kind-ne-INSERT w ↦ fits_nowhere _ _ l.at (register_sound _ c.requires.0) (k.nowhere w.if-not-present.true) w.if-kind-ne-INSERT.false
+      | else-not-present w ↦ let t = k.there w.if-not-present.false in fits_there _ _ l.at t.0 t.1 t.2
     ] in
-    let sound = records-sound _ c.args.i c.requires.1 c.requires.2 in (
+    let sound = records_sound _ c.args.i c.requires.1 c.requires.2 in (
       l.invariant.0 ∙ o.invariant.0,
       skips o.invariant.1 (omega arith) (ap not (ap (fit_record g) (sym e) ∙ fits)),
-      λ k q m n p. omega (arith, l.invariant.2 k m, ap record_key e, larger-record s sound o.j q (omega arith) (omega arith)),
+      λ k q m n p. omega (arith, l.invariant.2 k m, ap record_key e, larger_record s sound o.j q (omega arith) (omega arith)),
     )
 
 pub returns-after-records : goal.returns-after-records
@@ -72,7 +72,7 @@ returns-then-kind-eq-INSERT c =
     let o = c.records in
     let l = c.rows in
     let h : l.at < length g.rows = omega arith in
-    let wrong : fit_record g r ≡ false = wrong-there _ _ l.at h (sym c.row_key-row.ensures ∙ sym c.if-key-row-2.true) c.if-kind-eq-INSERT.true in
+    let wrong : fit_record g r ≡ false = wrong_there _ _ l.at h (sym c.row_key-row.ensures ∙ sym c.if-key-row-2.true) c.if-kind-eq-INSERT.true in
     ap (λ (q : Record). Key q.key) e ∙ sym (ap first_key (stops o.invariant.1 (omega arith) (ap not (ap (fit_record g) (sym e) ∙ wrong))))
 
 pub returns-then-kind-ne-INSERT : goal.returns-then-kind-ne-INSERT
@@ -85,9 +85,9 @@ returns-then-kind-ne-INSERT c =
     let o = c.records in
     let l = c.rows in
     let k : Walked g r l.at c.rows-test.present = elim c.rows-test.branch [
-      | else-rows-test w ↦ walked-nowhere g r l.at (w.present-is ∙ l.invariant.1) (record { before = l.invariant.2; there = λ h. absurd (omega arith) })
-      | then-rows-test+then-key-row w ↦ walked-nowhere g r l.at (w.present-is ∙ l.invariant.1) (record { before = l.invariant.2; there = λ h. omega arith })
-      | then-rows-test+else-key-row+then-key-row-2+else-kind-eq-INSERT w ↦ walked-there g r l.at w.present-is (omega arith) (sym w.row_key-row.ensures ∙ sym w.if-key-row-2.true) w.if-kind-eq-INSERT.false
+      | else-rows-test w ↦ walked_nowhere g r l.at (w.present-is ∙ l.invariant.1) (record { before = l.invariant.2; there = λ h. absurd (omega arith) })
+      | then-rows-test+then-key-row w ↦ walked_nowhere g r l.at (w.present-is ∙ l.invariant.1) (record { before = l.invariant.2; there = λ h. omega arith })
+      | then-rows-test+else-key-row+then-key-row-2+else-kind-eq-INSERT w ↦ walked_there g r l.at w.present-is (omega arith) (sym w.row_key-row.ensures ∙ sym w.if-key-row-2.true) w.if-kind-eq-INSERT.false
     ] in
-    let wrong : fit_record g r ≡ false = wrong-nowhere _ _ l.at (register-sound _ c.requires.0) (k.nowhere c.if-not-present.true) c.if-kind-ne-INSERT.true in
+    let wrong : fit_record g r ≡ false = wrong_nowhere _ _ l.at (register_sound _ c.requires.0) (k.nowhere c.if-not-present.true) c.if-kind-ne-INSERT.true in
     ap (λ (q : Record). Key q.key) e ∙ sym (ap first_key (stops o.invariant.1 (omega arith) (ap not (ap (fit_record g) (sym e) ∙ wrong))))

@@ -1,12 +1,12 @@
 -- The places before set i tell the first key lost.
 use Rattle.std.proofs.Common.{◌∙◌, ap, arith, length-set, rules}
-use Rattle.sheets.specs.SheetSizes.{few-sets}
+use Rattle.sheets.specs.SheetSizes.{few_sets}
 use Rattle.judging.specs.Tables.{in_table}
 use Rattle.laws.specs.Places.{told_more}
 use Rattle.judging.proofs.judge.find_lost.Goals as goal
 
 pub loop-i-init : goal.loop-i-init
-loop-i-init c = (omega arith, omega (arith, few-sets _ c.requires.0), search rules, λ g t k h. absurd (omega arith))
+loop-i-init c = (omega arith, omega (arith, few_sets _ c.requires.0), search rules, λ g t k h. absurd (omega arith))
 
 pub lost_key-requires : goal.lost_key-requires
 lost_key-requires c = (search rules, search rules, omega arith)

@@ -1,6 +1,6 @@
 -- The row that was found decides, unless the mode is Read Committed.
 use Rattle.std.proofs.Common.{arith}
-use Rattle.reads.proofs.EntryLaws.{committed, in_row, no-row}
+use Rattle.reads.proofs.EntryLaws.{committed, in_row, no_row_lem}
 use Rattle.reads.proofs.entry.failing.Goals as goal
 
 pub returns-then-mode-eq-READ_COMMITTED : goal.returns-then-mode-eq-READ_COMMITTED
@@ -10,4 +10,4 @@ pub returns-in-There : goal.returns-in-There
 returns-in-There c = in_row _ _ _ _ (omega arith) c.find.ensures c.in-There.is c.failing_row.ensures
 
 pub returns-in-Absent : goal.returns-in-Absent
-returns-in-Absent c = no-row _ _ _ _ (omega arith) c.find.ensures c.in-Absent.is
+returns-in-Absent c = no_row_lem _ _ _ _ (omega arith) c.find.ensures c.in-Absent.is

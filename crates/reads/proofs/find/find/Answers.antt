@@ -1,7 +1,7 @@
 -- Halving: every row with the key lies from lo on and before hi.
 use Rattle.std.proofs.Common.{◌-◌, ◌+◌, ◌/◌, arith}
 use Rattle.rules.specs.Register.{register_in}
-use Rattle.laws.specs.RegisterLaws.{register-sound}
+use Rattle.laws.specs.RegisterLaws.{register_sound}
 use Rattle.reads.proofs.RowLaws.{beyond, there, absent}
 use Rattle.reads.proofs.find.find.Goals as goal
 
@@ -16,14 +16,14 @@ pub loop-lo-preserved-then-k-key-2 : goal.loop-lo-preserved-then-k-key-2
 loop-lo-preserved-then-k-key-2 c = let l = c.loop-lo in
     let b = c.args.register.now in
     let m = l.lo + (l.hi - l.lo) / 2 in
-    let past = beyond (register_in b) (register-sound b c.requires) in
+    let past = beyond (register_in b) (register_sound b c.requires) in
     (omega arith, omega arith, λ k h e. (omega (arith, past m k (omega arith) (omega arith)), (l.invariant.2 k h e).1))
 
 pub loop-lo-preserved : goal.loop-lo-preserved
 loop-lo-preserved c = let l = c.loop-lo in
     let b = c.args.register.now in
     let m = l.lo + (l.hi - l.lo) / 2 in
-    let past = beyond (register_in b) (register-sound b c.requires) in
+    let past = beyond (register_in b) (register_sound b c.requires) in
     (omega arith, omega arith, λ k h e. ((l.invariant.2 k h e).0, past k m h (omega arith)))
 
 pub returns : goal.returns

@@ -1,19 +1,19 @@
 -- An entry of an examined sheet lies within its bytes.
 use Rattle.std.proofs.Common.{arith, ◌∙◌}
-use Rattle.sheets.proofs.SheetPlaces.{entry-room, record-count}
+use Rattle.sheets.proofs.SheetPlaces.{entry_room, record_count_lem}
 use Rattle.sheets.proofs.reading.record_count.Goals as goal
 
 pub overflow_mul-i : goal.overflow_mul-i
-overflow_mul-i c = omega (arith, entry-room c.args.b.now c.args.i c.requires.0 c.requires.1)
+overflow_mul-i c = omega (arith, entry_room c.args.b.now c.args.i c.requires.0 c.requires.1)
 
 pub overflow_add-i : goal.overflow_add-i
-overflow_add-i c = omega (arith, entry-room c.args.b.now c.args.i c.requires.0 c.requires.1)
+overflow_add-i c = omega (arith, entry_room c.args.b.now c.args.i c.requires.0 c.requires.1)
 
 pub overflow_add-i-2 : goal.overflow_add-i-2
-overflow_add-i-2 c = omega (arith, entry-room c.args.b.now c.args.i c.requires.0 c.requires.1)
+overflow_add-i-2 c = omega (arith, entry_room c.args.b.now c.args.i c.requires.0 c.requires.1)
 
 pub get16-requires : goal.get16-requires
-get16-requires c = omega (arith, entry-room c.args.b.now c.args.i c.requires.0 c.requires.1)
+get16-requires c = omega (arith, entry_room c.args.b.now c.args.i c.requires.0 c.requires.1)
 
 pub returns : goal.returns
-returns c = c.get16.ensures ∙ record-count c.args.b.now c.args.i c.requires.1
+returns c = c.get16.ensures ∙ record_count_lem c.args.b.now c.args.i c.requires.1
