@@ -140,14 +140,14 @@ closing_writes r t n m c p =
 pub record Gives (r t : Bytes) (g : Register) (s : Sheet) (c : Closing) : Type 0 where
   pub reads_register : read_register r ≡ some g
   pub reads_sheet : read_sheet t ≡ some s
-  pub next_room_lem : ℕ
+  pub next_room : ℕ
   pub room : ℕ
-  pub is_done : close_outcome r t next_room_lem room ≡ done c
+  pub is_done : close_outcome r t next_room room ≡ done c
 
 -- what closing writes, by the register and the sheet that were read
 pub gives_writes : (r t : Bytes) (g : Register) (s : Sheet) (c : Closing) → Gives r t g s c → Writes g s c
 gives_writes r t g s c h =
-    let w = closing_writes r t h.next_room_lem h.room c h.is_done in
+    let w = closing_writes r t h.next_room h.room c h.is_done in
     let e : w.0 ≡ g = some-injective _ _ (sym w.2 ∙ h.reads_register) in
     let f : w.1 ≡ s = some-injective _ _ (sym w.3 ∙ h.reads_sheet) in
     subst (λ (x : Register). Writes x s c) e (subst (λ (x : Sheet). Writes w.0 x c) f w.4)

@@ -1,5 +1,5 @@
--- GATHERING NEVER GETS STUCK: a tree over one epoch and one roster, of well-formed offers of masters in the roster, with buffers that are
--- long enough, is not refused; and every tree that is not refused is such a tree.
+-- EVERY TREE THAT IS NOT REFUSED IS FAIR: over one epoch and one roster, of well-formed offers of masters in the roster, with buffers that
+-- are long enough. That such a tree is not refused, gathering never gets stuck, is proofs/NeverStuck.antt.
 use Rattle.std.specs.Prelude.{ℕ, ◌≤◌, ◌≡◌, true, [], leb}
 use Rattle.std.proofs.Math.Path.{refl}
 use Rattle.std.proofs.Common.{sym, ◌∙◌, ap, ap₂, subst, arith}
@@ -23,7 +23,7 @@ offer_goes : (s : Bytes) (x : Sheet) (o : Option Offer) (y : Offer) (f m room : 
     → offer_to (read_sheet s) o f m room ≡ done (sheet_bytes (with_offer x y))
 offer_goes s x o y f m room p q e i h = ap₂ (λ (a : Option Sheet) (b : Option Offer). offer_to a b f m room) p q ∙ →offer x y f m room e i h
 
-join_goes : (s v : Bytes) (x y : Sheet) (room : ℕ) → read_sheet s ≡ some x → read_sheet v ≡ some y → x.epoch ≡ y.epoch → x.roster ≡ y.roster → sheet_room ≤ room
+pub join_goes : (s v : Bytes) (x y : Sheet) (room : ℕ) → read_sheet s ≡ some x → read_sheet v ≡ some y → x.epoch ≡ y.epoch → x.roster ≡ y.roster → sheet_room ≤ room
     → join_outcome s v room ≡ done (sheet_bytes (joined x y))
 unfolding join_outcome
 join_goes s v x y room p q e r h = ap₂ (λ (a b : Option Sheet). join_sheets a b room) p q ∙ →join x y room e r h
@@ -31,56 +31,19 @@ join_goes s v x y room p q e r h = ap₂ (λ (a b : Option Sheet). join_sheets a
 -- ---- a tree that ended, and one operation more
 
 module _ (e r : ℕ) (t : Tree) (s : Bytes) (p : ends paper t ≡ done s) (f : FairTree e r t) where
-  tree_read : read_sheet s ≡ some (gathered_in t)
+  pub tree_read : read_sheet s ≡ some (gathered_in t)
   tree_read = ended_read t s (ended t s p)
 
-  tree_epoch : e ≡ (gathered_in t).epoch
+  pub tree_epoch : e ≡ (gathered_in t).epoch
   tree_epoch = sym (fair_head e r t f).0 ∙ sym (in_epoch t)
 
-  tree_roster : r ≡ (gathered_in t).roster
+  pub tree_roster : r ≡ (gathered_in t).roster
   tree_roster = sym (fair_head e r t f).1 ∙ sym (in_roster_lem t)
 
-  one_more : (o : Option Offer) (y : Offer) (g m room : ℕ) → o ≡ some y → g ≡ e → in_roster r m ≡ true → sheet_room ≤ room
+  pub one_more : (o : Option Offer) (y : Offer) (g m room : ℕ) → o ≡ some y → g ≡ e → in_roster r m ≡ true → sheet_room ≤ room
       → offer_to (read_sheet s) o g m room ≡ done (sheet_bytes (with_offer (gathered_in t) y))
   one_more o y g m room q c i h =
       offer_goes s (gathered_in t) o y g m room tree_read q (c ∙ tree_epoch) (sym (ap (λ (n : ℕ). in_roster n m) tree_roster) ∙ i) h
-
--- a fair tree ends
-goes : (e r : ℕ) → Head e r → (t : Tree) → FairTree e r t → (b : Bytes) × (ends paper t ≡ done b)
-unfolding FairTree ends and_then put_outcome notice_outcome
-goes e r k (opened f q room) h =
-    (_, →open f.value q.value room (ap (leb 1) h.0 ∙ k.epoch) (ap (leb 1) h.1 ∙ k.roster) h.2)
-goes e r k (put t f sen csn b room) h =
-    let w = goes e r k t h.0 in
-    let o = h.2.well_formed_lem in
-    let c : offered_set f sen csn.value b ≡ some o.0 = ap (λ (g : ℕ). offered_set g sen csn.value b) h.1 ∙ o.1 in (
-      _,
-      ap (λ (z : Outcome Bytes). and_then z (λ s. put_outcome s f sen csn.value b room)) w.1
-          ∙ one_more e r t w.0 w.1 h.0 (offered_set f sen csn.value b) o.0 f (master_of csn.value) room c h.1 h.2.in_roster_lem h.3,
-    )
-goes e r k (notice t f m n room) h =
-    let w = goes e r k t h.0 in
-    let o = h.2.well_formed_lem in
-    let c : offered_notice f m n ≡ some o.0 = ap (λ (g : ℕ). offered_notice g m n) h.1 ∙ o.1 in (
-      _,
-      ap (λ (z : Outcome Bytes). and_then z (λ s. notice_outcome s f m n room)) w.1
-          ∙ one_more e r t w.0 w.1 h.0 (offered_notice f m n) o.0 f m room c h.1 h.2.in_roster_lem h.3,
-    )
-goes e r k (join t u room) h =
-    let w = goes e r k t h.0 in
-    let v = goes e r k u h.1 in (
-      _,
-      ap₂ (λ (y z : Outcome Bytes). and_then y (λ a. and_then z (λ b. join_outcome a b room))) w.1 v.1
-          ∙ join_goes w.0 v.0 (gathered_in t) (gathered_in u) room
-          (tree_read e r t w.0 w.1 h.0) (tree_read e r u v.0 v.1 h.1)
-          (sym (tree_epoch e r t w.0 w.1 h.0) ∙ tree_epoch e r u v.0 v.1 h.1)
-          (sym (tree_roster e r t w.0 w.1 h.0) ∙ tree_roster e r u v.0 v.1 h.1) h.2,
-    )
-goes e r k (given b p) h = (b, refl)
-
--- GATHERING NEVER GETS STUCK
-pub never_stuck : (e r : ℕ) → Head e r → (t : Tree) → FairTree e r t → ends paper t ≡ done (sheet_bytes (gathered_in t))
-never_stuck e r k t f = let w = goes e r k t f in w.1 ∙ ap done (demand_3 t w.0 w.1)
 
 -- EVERY TREE THAT IS NOT REFUSED IS FAIR (and its head is one that a sheet can have: `ended`)
 pub fair_ended : (t : Tree) (b : Bytes) → ends paper t ≡ done b → FairTree (epoch_of t) (roster_of t) t

@@ -11,7 +11,6 @@ use Rattle.laws.specs.GatheredFrom.{gathered_from, from_same}
 use Rattle.laws.specs.Trees.{Tree, paper, ends, offers_in, epoch_of, roster_of, spoiled_in, gathered_in}
 use Rattle.laws.specs.Demand3.{demand_3}
 use Rattle.laws.specs.FairTrees.{FairTree, fair_head}
-use Rattle.laws.specs.NeverStuck.{never_stuck}
 
 -- the same distinct offers: each of either tree is in the other, and both began at a spoiled sheet or neither did
 pub record SameOffers (t u : Tree) : Type 0 where
@@ -20,20 +19,11 @@ pub record SameOffers (t u : Tree) : Type 0 where
   pub spoiled_alike : spoiled_in t ≡ spoiled_in u
 
 -- the same sheet is gathered
-same_gathered : (t u : Tree) → epoch_of t ≡ epoch_of u → roster_of t ≡ roster_of u → SameOffers t u → gathered_in t ≡ gathered_in u
+pub same_gathered : (t u : Tree) → epoch_of t ≡ epoch_of u → roster_of t ≡ roster_of u → SameOffers t u → gathered_in t ≡ gathered_in u
 unfolding gathered_in
 same_gathered t u c d h =
     from_same (spoiled_in t) (epoch_of t) (roster_of t) (offers_in t) (offers_in u) h.there h.back
     ∙ λ i. gathered_from (h.spoiled_alike i) (c i) (d i) (offers_in u)
-
--- TREES OF ONE EPOCH, ONE ROSTER AND THE SAME DISTINCT OFFERS END IN THE SAME BYTES
-pub same_bytes : (e r : ℕ) → Head e r → (t u : Tree) → FairTree e r t → FairTree e r u → SameOffers t u
-    → (b : Bytes) × (ends paper t ≡ done b) × (ends paper u ≡ done b)
-same_bytes e r k t u f g h =
-    let a = fair_head e r t f in
-    let b = fair_head e r u g in
-    let w = same_gathered t u (a.0 ∙ sym b.0) (a.1 ∙ sym b.1) h in
-    (sheet_bytes (gathered_in t), never_stuck e r k t f, never_stuck e r k u g ∙ ap (λ x. done (sheet_bytes x)) (sym w))
 
 -- the same of trees that are not refused
 pub same_ended : (t u : Tree) (a b : Bytes) → ends paper t ≡ done a → ends paper u ≡ done b

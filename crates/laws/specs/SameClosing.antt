@@ -11,7 +11,7 @@ use Rattle.rules.specs.Refused.{done, register_room, verdict_room, close_sheet, 
 use Rattle.laws.specs.GatherSound.{Head}
 use Rattle.laws.specs.Trees.{Tree, paper, ends, epoch_of, roster_of}
 use Rattle.laws.specs.FairTrees.{FairTree}
-use Rattle.laws.specs.SameBytes.{SameOffers, same_bytes, same_ended}
+use Rattle.laws.specs.SameBytes.{SameOffers, same_ended}
 
 -- buffers that are long enough for closing: 28,680 for the next register, 320 for the verdicts
 pub record LongEnough (next_room room : ℕ) : Type 0 where
@@ -29,14 +29,6 @@ shortest (some g) (some s) n m l = simp (le-ltb n register_room l.for_register, 
 pub rooms_alike : (g a : Bytes) (n m n' m' : ℕ) → LongEnough n m → LongEnough n' m' → close_outcome g a n m ≡ close_outcome g a n' m'
 unfolding close_outcome
 rooms_alike g a n m n' m' l k = shortest (read_register g) (read_sheet a) n m l ∙ sym (shortest (read_register g) (read_sheet a) n' m' k)
-
--- SO TREES OF THE SAME DISTINCT OFFERS CLOSE ALIKE FROM ONE REGISTER, TO THE SAME VERDICTS AND REGISTER OR THE SAME REFUSAL
-pub same_closing : (e r : ℕ) → Head e r → (t u : Tree) → FairTree e r t → FairTree e r u → SameOffers t u
-    → (g : Bytes) (n m n' m' : ℕ) → LongEnough n m → LongEnough n' m'
-    → (a : Bytes) × (b : Bytes) × (ends paper t ≡ done a) × (ends paper u ≡ done b) × (close_outcome g a n m ≡ close_outcome g b n' m')
-same_closing e r h t u f k s g n m n' m' l o =
-    let w = same_bytes e r h t u f k s in
-    (w.0, w.0, w.1, w.2, rooms_alike g w.0 n m n' m' l o)
 
 -- the same of trees that are not refused
 pub same_ended_closing : (t u : Tree) (a b : Bytes) → ends paper t ≡ done a → ends paper u ≡ done b

@@ -1,0 +1,3 @@
+pub mod NeverStuck
+pub mod SameBytes
+pub mod SameClosing
