@@ -1,7 +1,7 @@
 /* The clerk's example A from C: two masters change station 10, and the smaller csn wins. Prints the report of document 01, and what a
  * depot's read checks then find.
  *
- *   rt staticlib castorpedal
+ *   tools/build
  *   cc -Iinclude examples/close.c target/staticlib/libcastorpedal.a -o target/close_c && target/close_c
  */
 #include "castorpedal.h"

@@ -1,7 +1,7 @@
 //! The clerk's example A from Rust: two masters change station 10, and the smaller csn wins. Prints the report of document 01, and what a
 //! depot's read checks then find.
 //!
-//!     rt staticlib castorpedal
+//!     tools/build
 //!     cd rust && cargo run --example close
 
 use castorpedal::{record, Checked, Read, Refusal, Register, Row, Sheet};

@@ -1,6 +1,6 @@
 /* The visit desk from C: a clerk types two visits, offers them as one set, and the epoch is closed. Prints what examples/desk.rs prints.
  *
- *   rt staticlib castorpedal
+ *   tools/build
  *   cc -Iinclude examples/desk.c target/staticlib/libcastorpedal.a -o target/desk_c && target/desk_c
  */
 #include "castorpedal.h"

@@ -1,7 +1,7 @@
 //! The visit desk from Rust: a clerk types two visits, offers them as one set, and the epoch is closed. Prints the records as they were typed
 //! in, and what becomes of the set.
 //!
-//!     rt staticlib castorpedal
+//!     tools/build
 //!     cd rust && cargo run --example desk
 
 use castorpedal::{record, tag, OpenSet, Refusal, Register, Row, Sheet};

@@ -1,4 +1,4 @@
-// Links the static library, which `rt staticlib castorpedal` builds into target/staticlib at the top of the repository. Where that cannot
+// Links the static library, which `tools/build` writes into target/staticlib at the top of the repository. Where that cannot
 // be done, cargo says why and what to do; a linker would name neither.
 use std::env::var;
 use std::path::PathBuf;
@@ -16,7 +16,7 @@ fn main() {
     }
     if !library.exists() {
         println!("cargo::error={} is missing.", library.display());
-        println!("cargo::error=`rt staticlib castorpedal`, at the top of the repository, builds it.");
+        println!("cargo::error=`tools/build`, at the top of the repository, builds it.");
     }
     println!("cargo::rustc-link-search=native={}", folder.display());
     println!("cargo::rustc-link-lib=static=castorpedal");

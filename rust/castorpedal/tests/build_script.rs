@@ -43,7 +43,7 @@ fn says_that_the_library_is_missing() {
     let said = lines(script("build_without_library"), &top, "x86_64", "linux");
     let [what, cure] = errors(&said)[..] else { panic!("{said:?}") };
     assert_eq!(what, format!("{} is missing.", top.join("target/staticlib/libcastorpedal.a").display()));
-    assert!(cure.contains("`rt staticlib castorpedal`, at the top of the repository"), "{cure}");
+    assert!(cure.contains("`tools/build`, at the top of the repository"), "{cure}");
 }
 
 #[test]
