@@ -1,21 +1,18 @@
 -- GATHERING NEVER GETS STUCK: a tree over one epoch and one roster, of well-formed offers of masters in the roster, with buffers that are
 -- long enough, is not refused.
-use Rattle.std.specs.Prelude.{ℕ, ◌≤◌, ◌≡◌, true, [], leb}
+use Rattle.std.specs.Prelude.{ℕ, ◌≡◌, leb}
 use Rattle.std.proofs.Math.Path.{refl}
-use Rattle.std.proofs.Common.{sym, ◌∙◌, ap, ap₂, subst, arith}
-use mathlib.Core.List.Memᴰ
-use Rattle.std.proofs.Math.Option.{Option, some}
+use Rattle.std.proofs.Common.{sym, ◌∙◌, ap, ap₂}
+use Rattle.std.proofs.Math.Option.{some}
 use Rattle.words.specs.Words.{Bytes}
 use Rattle.rules.specs.Numbers.{master_of}
-use Rattle.rules.specs.Sheet.{Sheet, in_roster, sound_sheet, sheet_bytes, read_sheet}
-use Rattle.rules.specs.Gathering.{Offer, sound_of, empty_sheet, with_offer, joined}
-use Rattle.rules.specs.Refused.{Outcome, done, sheet_room, open_outcome, offered_set, offered_notice, offer_to, put_outcome, notice_outcome, join_sheets, join_outcome}
-use Rattle.laws.specs.SheetLaws.{read_written}
-use Rattle.laws.specs.GatherSound.{Head, gathered_sound, gathered_none}
-use Rattle.laws.specs.Trees.{Number, Tree, opened, put, notice, join, given, paper, and_then, ends, epoch_of, roster_of, gathered_in}
-use Rattle.laws.specs.NotRefused.{then→, open→, →open, offer→, →offer, →join}
-use Rattle.laws.specs.Demand3.{in_epoch, in_roster_lem, ended_read, taken, agree, ended, demand_3}
-use Rattle.laws.specs.FairTrees.{GoodSet, GoodNotice, FairTree, fair_head}
+use Rattle.rules.specs.Sheet.{sheet_bytes}
+use Rattle.rules.specs.Refused.{Outcome, done, offered_set, offered_notice, put_outcome, notice_outcome, join_outcome}
+use Rattle.laws.specs.GatherSound.{Head}
+use Rattle.laws.specs.Trees.{Tree, opened, put, notice, join, given, paper, and_then, ends, gathered_in}
+use Rattle.laws.specs.NotRefused.{→open}
+use Rattle.laws.specs.Demand3.{demand_3}
+use Rattle.laws.specs.FairTrees.{FairTree}
 use Rattle.laws.specs.NeverStuck.{join_goes, tree_read, tree_epoch, tree_roster, one_more}
 
 -- a fair tree ends

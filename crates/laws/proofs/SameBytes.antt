@@ -4,11 +4,8 @@ use Rattle.std.proofs.Common.{sym, ◌∙◌, ap}
 use Rattle.words.specs.Words.{Bytes}
 use Rattle.rules.specs.Sheet.{sheet_bytes}
 use Rattle.rules.specs.Refused.{done}
-use Rattle.laws.specs.ListLaws.{Sub}
 use Rattle.laws.specs.GatherSound.{Head}
-use Rattle.laws.specs.GatheredFrom.{gathered_from, from_same}
-use Rattle.laws.specs.Trees.{Tree, paper, ends, offers_in, epoch_of, roster_of, spoiled_in, gathered_in}
-use Rattle.laws.specs.Demand3.{demand_3}
+use Rattle.laws.specs.Trees.{Tree, paper, ends, gathered_in}
 use Rattle.laws.specs.FairTrees.{FairTree, fair_head}
 use Rattle.laws.specs.SameBytes.{SameOffers, same_gathered}
 use Rattle.laws.proofs.NeverStuck.{never_stuck}

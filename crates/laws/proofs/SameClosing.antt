@@ -1,14 +1,9 @@
 -- Fair trees of the same distinct offers end, and close alike.
-use Rattle.std.specs.Prelude.{ℕ, ◌≤◌, ◌≡◌, refl}
-use Rattle.std.proofs.Common.{sym, ◌∙◌, ap, le-ltb}
-use Rattle.std.proofs.Math.Option.{Option, none, some}
+use Rattle.std.specs.Prelude.{ℕ, ◌≡◌}
 use Rattle.words.specs.Words.{Bytes}
-use Rattle.rules.specs.Lists.{◌or◌}
-use Rattle.rules.specs.Register.{Register, read_register}
-use Rattle.rules.specs.Sheet.{Sheet, read_sheet}
-use Rattle.rules.specs.Refused.{done, register_room, verdict_room, close_sheet, close_outcome}
+use Rattle.rules.specs.Refused.{done, close_outcome}
 use Rattle.laws.specs.GatherSound.{Head}
-use Rattle.laws.specs.Trees.{Tree, paper, ends, epoch_of, roster_of}
+use Rattle.laws.specs.Trees.{Tree, paper, ends}
 use Rattle.laws.specs.FairTrees.{FairTree}
 use Rattle.laws.specs.SameBytes.{SameOffers}
 use Rattle.laws.specs.SameClosing.{LongEnough, rooms_alike}

@@ -12,7 +12,7 @@ use Rattle.std.proofs.lemmas.Bool.{lt-leb}
 use Rattle.std.proofs.Math.ListN.{length}
 use Rattle.rules.specs.declared.row.Record.{Record}
 use Rattle.rules.specs.declared.desk.OpenSet.{OpenSet}
-use Rattle.rules.specs.Lists.{◌or◌, all}
+use Rattle.rules.specs.Lists.{◌or◌}
 use Rattle.rules.specs.Sheet.{max_records, record_key, sound_record}
 use Rattle.rules.specs.Tag.{is_key, tag_of}
 use Rattle.rules.specs.OpenSet.{sound_open, open_set_of, empty_set, has_key, put_record}

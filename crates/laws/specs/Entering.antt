@@ -15,7 +15,7 @@ use Rattle.std.proofs.Math.ListN.{length}
 use Rattle.words.specs.Words.{Bytes}
 use Rattle.rules.specs.declared.row.Record.{Record}
 use Rattle.rules.specs.declared.desk.OpenSet.{OpenSet}
-use Rattle.rules.specs.Lists.{◌and◌, ◌or◌, if◌then◌else◌, any, all}
+use Rattle.rules.specs.Lists.{◌and◌, ◌or◌, if◌then◌else◌, all}
 use Rattle.rules.specs.Sheet.{max_records, record_key, is_kind, sound_value, sound_record}
 use Rattle.rules.specs.Tag.{right_tag, is_key, is_tag, key_in, key_of_tag}
 use Rattle.rules.specs.OpenSet.{sound_open, is_open_set, read_open, open_records, has_key, put_record}

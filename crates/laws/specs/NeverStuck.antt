@@ -1,6 +1,6 @@
 -- EVERY TREE THAT IS NOT REFUSED IS FAIR: over one epoch and one roster, of well-formed offers of masters in the roster, with buffers that
 -- are long enough. That such a tree is not refused, gathering never gets stuck, is proofs/NeverStuck.antt.
-use Rattle.std.specs.Prelude.{ℕ, ◌≤◌, ◌≡◌, true, [], leb}
+use Rattle.std.specs.Prelude.{ℕ, ◌≤◌, ◌≡◌, true, []}
 use Rattle.std.proofs.Math.Path.{refl}
 use Rattle.std.proofs.Common.{sym, ◌∙◌, ap, ap₂, subst, arith}
 use mathlib.Core.List.Memᴰ
@@ -9,12 +9,12 @@ use Rattle.words.specs.Words.{Bytes}
 use Rattle.rules.specs.Numbers.{master_of}
 use Rattle.rules.specs.Sheet.{Sheet, in_roster, sound_sheet, sheet_bytes, read_sheet}
 use Rattle.rules.specs.Gathering.{Offer, sound_of, empty_sheet, with_offer, joined}
-use Rattle.rules.specs.Refused.{Outcome, done, sheet_room, open_outcome, offered_set, offered_notice, offer_to, put_outcome, notice_outcome, join_sheets, join_outcome}
+use Rattle.rules.specs.Refused.{done, sheet_room, open_outcome, offered_set, offered_notice, offer_to, put_outcome, notice_outcome, join_sheets, join_outcome}
 use Rattle.laws.specs.SheetLaws.{read_written}
 use Rattle.laws.specs.GatherSound.{Head, gathered_sound, gathered_none}
 use Rattle.laws.specs.Trees.{Number, Tree, opened, put, notice, join, given, paper, and_then, ends, epoch_of, roster_of, gathered_in}
 use Rattle.laws.specs.NotRefused.{then→, open→, →open, offer→, →offer, →join}
-use Rattle.laws.specs.Demand3.{in_epoch, in_roster_lem, ended_read, taken, agree, ended, demand_3}
+use Rattle.laws.specs.Demand3.{in_epoch, in_roster_lem, ended_read, taken, agree, ended}
 use Rattle.laws.specs.FairTrees.{GoodSet, GoodNotice, FairTree, fair_head}
 
 -- ---- one operation on a sheet that is there

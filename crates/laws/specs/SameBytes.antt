@@ -1,16 +1,14 @@
 -- Trees of one epoch, one roster and the same distinct offers end in the same bytes, however the offers were dealt, ordered, repeated
 -- and joined. A spoiled sheet holds no offers, so both began at one, or neither did.
-use Rattle.std.specs.Prelude.{ℕ, ◌≡◌}
+use Rattle.std.specs.Prelude.{◌≡◌}
 use Rattle.std.proofs.Common.{sym, ◌∙◌, ap}
 use Rattle.words.specs.Words.{Bytes}
 use Rattle.rules.specs.Sheet.{sheet_bytes}
 use Rattle.rules.specs.Refused.{done}
 use Rattle.laws.specs.ListLaws.{Sub}
-use Rattle.laws.specs.GatherSound.{Head}
 use Rattle.laws.specs.GatheredFrom.{gathered_from, from_same}
 use Rattle.laws.specs.Trees.{Tree, paper, ends, offers_in, epoch_of, roster_of, spoiled_in, gathered_in}
 use Rattle.laws.specs.Demand3.{demand_3}
-use Rattle.laws.specs.FairTrees.{FairTree, fair_head}
 
 -- the same distinct offers: each of either tree is in the other, and both began at a spoiled sheet or neither did
 pub record SameOffers (t u : Tree) : Type 0 where

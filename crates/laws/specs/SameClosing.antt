@@ -8,9 +8,7 @@ use Rattle.rules.specs.Lists.{◌or◌}
 use Rattle.rules.specs.Register.{Register, read_register}
 use Rattle.rules.specs.Sheet.{Sheet, read_sheet}
 use Rattle.rules.specs.Refused.{done, register_room, verdict_room, close_sheet, close_outcome}
-use Rattle.laws.specs.GatherSound.{Head}
 use Rattle.laws.specs.Trees.{Tree, paper, ends, epoch_of, roster_of}
-use Rattle.laws.specs.FairTrees.{FairTree}
 use Rattle.laws.specs.SameBytes.{SameOffers, same_ended}
 
 -- buffers that are long enough for closing: 28,680 for the next register, 320 for the verdicts

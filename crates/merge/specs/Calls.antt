@@ -1,33 +1,17 @@
 -- A CALLER'S CALLS of open, put, notice and join, each on bytes that an earlier call wrote or that were given, and one of close: what they
 -- answered and left in their buffers, where the operations keep their promises. The operations' contracts are these very promises.
-use Rattle.std.specs.Prelude.{ℕ, ◌≡◌, refl, true, List, [], length, take}
-use Rattle.std.proofs.Common.{sym, ◌∙◌, ap, subst, arith, take_all}
-use Rattle.std.proofs.Math.Option.{some}
+use Rattle.std.specs.Prelude.{ℕ, ◌≡◌, true, [], length, take}
 use Rattle.words.specs.Words.{Bytes}
-use Rattle.rules.specs.declared.row.Record.{Record}
-use Rattle.rules.specs.declared.desk.OpenSet.{OpenSet}
-use Rattle.rules.specs.declared.answer.Refusal.{Refusal}
 use Rattle.rules.specs.declared.answer.Answer.{Answer}
 use Rattle.rules.specs.declared.answer.Answer.TheVariants.{Wrote, Refused}
 use Rattle.rules.specs.declared.answer.Closed.{Closed}
 use Rattle.rules.specs.declared.answer.Closed.TheVariants as closed
 use Rattle.rules.specs.Answers.{refusal_number}
-use Rattle.rules.specs.Register.{Register}
-use Rattle.rules.specs.Sheet.{Sheet, is_sheet, records_bytes, sheet_bytes}
-use Rattle.rules.specs.OpenSet.{empty_set, read_open, offered_bytes}
-use Rattle.rules.specs.Refused.{Outcome, refused, done, Closing, open_outcome, put_outcome, notice_outcome, join_outcome, close_outcome, offer_outcome}
-use Rattle.rules.specs.Promises.{Promise, ClosePromise, OfferPromise}
-use Rattle.rules.specs.Applies.{to_close, Foremost}
-use Rattle.laws.specs.GatherSound.{Head}
-use Rattle.laws.specs.NotRefused.{refused_not}
-use Rattle.laws.specs.Exactly.{open_exactly, put_exactly, notice_exactly, join_exactly, close_exactly, offer_exactly}
-use Rattle.laws.specs.Kept.{Numbered, numbered, refused_foremost, written, kept_done, kept_length, kept_lengths, kept_refused, kept_done_closing, kept_refused_closing, kept_wrote_closing, kept_refuses_closing, kept_offered}
-use Rattle.laws.specs.OpenSets.{offers_own}
-use Rattle.laws.specs.Trees.{Number, Tree, opened, put, notice, join, given, paper, and_then, ends, epoch_of, roster_of, gathered_in}
-use Rattle.laws.specs.Demand3.{demand_3}
-use Rattle.laws.specs.FairTrees.{FairTree}
-use Rattle.laws.specs.SameClosing.{LongEnough, same_ended_closing}
-use Rattle.laws.specs.ClosingWrites.{Gives, closing_writes}
+use Rattle.rules.specs.Sheet.{is_sheet}
+use Rattle.rules.specs.Refused.{Outcome, refused, done, open_outcome, put_outcome, notice_outcome, join_outcome, close_outcome}
+use Rattle.rules.specs.Promises.{Promise, ClosePromise}
+use Rattle.laws.specs.Trees.{Number, Tree, opened, put, notice, join, given}
+use Rattle.laws.specs.SameClosing.{LongEnough}
 
 -- the calls of a tree were made: the last of them answered this and left this in its buffer, and those before it answered success
 pub data Called : Tree → Answer → Bytes → Type 0 where

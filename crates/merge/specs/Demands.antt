@@ -2,9 +2,8 @@
 -- are proofs/Demands.antt. What an operation does is its outcome (`rules` `Refused`), and what its code ensures of its answer and of every lent byte is
 -- its promise of that outcome (`rules` `Promises`).
 use Rattle.std.specs.Prelude.{ℕ, suc, ◌<◌, ◌≤◌, ◌≡◌, ◌⊎◌, true, false, length, get_or, set, take, drop}
-use Rattle.std.proofs.Common.{ap, ap₂}
 use mathlib.Core.List.{List, [], Memᴰ, Permᴰ}
-use Rattle.std.proofs.Math.Option.{Option, none, some}
+use Rattle.std.proofs.Math.Option.{none, some}
 use Rattle.words.specs.Words.{Bytes}
 use Rattle.rules.specs.declared.row.Row.{Row}
 use Rattle.rules.specs.declared.row.Record.{Record}
@@ -22,7 +21,6 @@ use Rattle.rules.specs.declared.answer.Checked.TheVariants as checked
 use Rattle.rules.specs.declared.answer.Reason.{Reason}
 use Rattle.rules.specs.Answers.{refusal_number}
 use Rattle.rules.specs.Lists.{flat}
-use Rattle.rules.specs.Numbers.{master_of}
 use Rattle.rules.specs.Register.{Register, sound_register, register_bytes, register_in, read_register}
 use Rattle.rules.specs.Sheet.{WriteSet, Sheet, is_kind, sound_value, sound_sheet, sheet_bytes, sheet_in, read_sheet, records_bytes, offered_records}
 use Rattle.rules.specs.Tag.{right_tag, key_in, is_key, key_of_tag, tag_of, exchanged}
@@ -31,40 +29,24 @@ use Rattle.rules.specs.Gathering.{Offer, a_set, a_notice, empty_sheet, spoiled_s
 use Rattle.rules.specs.Closing.{present, mark_in, winner, verdict, commits, committed, verdicts}
 use Rattle.rules.specs.Becoming.{next_rows, next}
 use Rattle.rules.specs.ReadCheck.{Finding, passes, fails, check_from, reads_of}
-use Rattle.rules.specs.Refused.{Outcome, refused, done, Closing, closing, sheet_room, verdict_bytes, open_outcome, put_outcome, notice_outcome, join_sheets, join_outcome, offer_to, offered_set, offered_notice, close_sheet, close_outcome, check_reads, reads_outcome, check_outcome, record_of, enter_outcome, offer_outcome, tag_outcome}
+use Rattle.rules.specs.Refused.{Outcome, refused, done, Closing, closing, sheet_room, verdict_bytes, open_outcome, put_outcome, notice_outcome, join_outcome, offered_set, offered_notice, close_outcome, reads_outcome, check_outcome, record_of, enter_outcome, offer_outcome, tag_outcome}
 use Rattle.rules.specs.Promises.{Promise, ClosePromise, CheckPromise, EnterPromise, OfferPromise}
 use Rattle.rules.specs.Applies.{Asked, to_open, to_put, to_notice, to_join, to_close, to_check, to_enter, to_offer, to_tag, turn_of, Foremost, RefusedExactly}
-use Rattle.rules.specs.Settled as settled
 use Rattle.laws.specs.ListLaws.{Sub}
 use Rattle.laws.specs.Says.{Says}
-use Rattle.laws.specs.RegisterLaws as register
-use Rattle.laws.specs.SheetLaws as sheet
-use Rattle.laws.specs.TagDetects as detects
 use Rattle.laws.specs.Tags as tags
-use Rattle.laws.specs.OpenSets as opened
-use Rattle.laws.specs.Entering as entering
 use Rattle.laws.specs.Entering.{Enters}
 use Rattle.laws.specs.AnyOrder as typed
-use Rattle.laws.specs.GatherLaws as gathering
 use Rattle.laws.specs.GatherSound.{Head}
-use Rattle.laws.specs.OwnOffers as own
 use Rattle.laws.specs.Trees.{Number, Tree, put, paper, ends, offers_in, epoch_of, roster_of, spoiled_in, all_opened, gathered_in, Within}
 use Rattle.laws.specs.FairTrees.{GoodSet, GoodNotice, FairTree}
-use Rattle.laws.specs.NeverStuck as stuck
 use Rattle.laws.specs.NeverStuck.{JustWhen}
-use Rattle.laws.specs.Demand3 as dealt
-use Rattle.laws.specs.SameBytes as bytes
 use Rattle.laws.specs.SameBytes.{SameOffers}
-use Rattle.laws.specs.SameClosing as rooms
 use Rattle.laws.specs.SameClosing.{LongEnough}
 use Rattle.laws.specs.Winners.{Claims, Wins}
-use Rattle.laws.specs.Commits as committing
 use Rattle.laws.specs.Commits.{Committed, VerdictSays}
 use Rattle.laws.specs.NotRefused.{set_by}
-use Rattle.laws.specs.Exactly as exactly
 use Rattle.laws.specs.Exactly.{entries_of}
-use Rattle.laws.specs.Kept as kept
-use Rattle.laws.specs.ClosingWrites as writing
 use Rattle.laws.specs.ClosingWrites.{WholeSet, NoneOfSet, Writes, Gives}
 use Rattle.laws.specs.Marks.{MarkedByWinner}
 use Rattle.laws.specs.RowBytes.{HasRow}
@@ -78,8 +60,6 @@ use Rattle.laws.specs.WrongClosers.{RefusesAlways, AnswersAlike, DoesNothing, N,
 use Rattle.laws.specs.Gatherers as gatherers
 use Rattle.laws.specs.Gatherers.{Demand3, always_spoiled, first_offer, counts_deliveries, example_a, example_g, example_g1}
 use Rattle.laws.specs.Examples as examples
-use Rattle.merge.specs.Examined as examined
-use Rattle.merge.specs.Calls as calls
 use Rattle.merge.specs.Calls.{Called, CloseCall, Roomy, written_next, written_verdicts}
 
 -- DEMAND 1: every public operation ends on all inputs, examines forms itself, refuses by a fixed number, and a refusal writes nothing.

@@ -1,6 +1,5 @@
 -- Each refusal is the outcome's, and where none is given the record is entered.
-use Rattle.std.proofs.Common.{sym, ◌∙◌, true, leb-false}
-use Rattle.rules.specs.OpenSet.{is_open_set}
+use Rattle.std.proofs.Common.{sym, ◌∙◌, leb-false}
 use Rattle.laws.specs.Says.{said_no, said_yes}
 use Rattle.laws.specs.Entering.{no_open_set}
 use Rattle.tags.specs.Tagged.{tagged_bad, tagged_key}

@@ -1,7 +1,6 @@
 -- `notices_ok` tests one master's notice after another.
 use Rattle.std.proofs.Common.{arith, below_more}
 use Rattle.laws.specs.Says.{said_no, said_yes, fails, passes}
-use Rattle.examine.specs.SheetForm.{notice_ok}
 use Rattle.examine.proofs.SheetTests.{notice_by_lem}
 use Rattle.examine.proofs.sheet.notices_ok.Goals as goal
 

@@ -1,7 +1,6 @@
 -- Refused in the order of the numbers, or joined with the sheet of the one offer.
 use Rattle.std.proofs.Common.{arith, ◌∙◌, sym}
 use Rattle.laws.specs.Says.{said_no, said_yes}
-use Rattle.rules.specs.Sheet.{is_sheet}
 use Rattle.rules.specs.Refused.{notice_outcome}
 use Rattle.gather.proofs.OfferLaws.{notice_says, good_notice_lem, bad_notice, grant, sheet_refused, offer_refused, not_admitted, taken_in}
 use Rattle.gather.proofs.offer.notice.Goals as goal

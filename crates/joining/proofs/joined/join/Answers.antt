@@ -1,8 +1,7 @@
 -- Joining refuses as the paper does, and writes the joined sheet.
-use Rattle.std.proofs.Common.{arith, sym, ◌∙◌, true}
+use Rattle.std.proofs.Common.{arith, sym, ◌∙◌}
 use Rattle.joining.proofs.JoinLaws.{first_ill, second_ill, other_epoch, other_roster, too_short, joins}
 use Rattle.laws.specs.Says.{said_no, said_yes}
-use Rattle.rules.specs.Sheet.{is_sheet}
 use Rattle.joining.proofs.joined.join.Goals as goal
 
 pub returns-then-not-is_sheet : goal.returns-then-not-is_sheet

@@ -1,5 +1,4 @@
 -- What the sheet is to be is decided before anything is written.
-use Rattle.walk.specs.declared.spoil.Joint.TheVariants as joint
 use Rattle.joining.proofs.JoinLaws.{same_sheet, told}
 use Rattle.joining.proofs.joined.join_into.Goals as goal
 

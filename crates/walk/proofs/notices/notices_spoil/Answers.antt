@@ -1,5 +1,5 @@
 -- No master that is passed has two different notices, or more sets than its notice.
-use Rattle.std.proofs.Common.{below_more, false, sym, ◌∙◌, arith}
+use Rattle.std.proofs.Common.{below_more, sym, ◌∙◌, arith}
 use Rattle.walk.proofs.Masters.{found, none_found}
 use Rattle.walk.specs.Walk.{notice_spoils}
 use Rattle.laws.specs.Tests.{or_left, or_right}
