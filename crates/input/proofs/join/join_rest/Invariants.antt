@@ -2,7 +2,7 @@
 use Rattle.std.proofs.Common.{◌≡◌, length}
 use Rattle.rules.specs.Sheet.{is_sheet}
 use Rattle.rules.specs.Refused.{sheet_room}
-use Rattle.input.specs.Reading.{Holds, sheet}
+use Rattle.input.specs.Reading.{Holds}
 use Rattle.input.proofs.join.join_rest.Given as goal
 
 abbrev pub invariant-loop-left : goal.invariant-loop-left
