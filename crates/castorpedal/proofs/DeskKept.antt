@@ -1,4 +1,5 @@
 -- An offer's outcome is no longer than a sheet may be, a tag's is eleven bytes; and how the exports of the desk keep their promises.
+use Rattle.std.specs.Prelude.{if◌then◌else◌}
 use Prim.Native.Nat.{ℕ, ◌^◌, ◌<◌}
 use mathlib.Core.Path.{◌≡◌, ◌∙◌, ap}
 use mathlib.Core.Bool.{not}
@@ -10,7 +11,6 @@ use Rattle.rules.specs.declared.desk.OpenSet.{OpenSet}
 use Rattle.rules.specs.declared.desk.Entered.{Entered}
 use Rattle.rules.specs.declared.answer.Answer.{Answer}
 use Rattle.rules.specs.Answers.{entered_number}
-use Rattle.rules.specs.Lists.{if◌then◌else◌}
 use Rattle.rules.specs.Tag.{tag_room, is_key, tag_of}
 use Rattle.rules.specs.OpenSet.{offered_bytes}
 use Rattle.rules.specs.Refused.{Outcome, refused, done, sheet_room, offer_outcome, tag_outcome}

@@ -1,9 +1,9 @@
 -- What is left of the closing's outcome where the sheet is complete, the verdict that the tables tell of a set, and what writing the next register leaves.
-use Rattle.std.specs.Prelude.{ℕ, ◌≡◌, length, ltb}
+use Rattle.std.specs.Prelude.{ℕ, ◌≡◌, length, ltb, if◌then◌else◌}
 use Rattle.words.specs.Words.{Bytes}
 use Rattle.rules.specs.declared.answer.Verdict.{Verdict}
 use Rattle.rules.specs.declared.answer.Verdict.TheVariants.{Commit, Lost, Unfit}
-use Rattle.rules.specs.Lists.{◌or◌, if◌then◌else◌}
+use Rattle.rules.specs.Lists.{◌or◌}
 use Rattle.rules.specs.Register.{Register, max_rows, register_bytes}
 use Rattle.rules.specs.Sheet.{Sheet}
 use Rattle.rules.specs.Becoming.{next_rows}

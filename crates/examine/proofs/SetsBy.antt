@@ -1,4 +1,5 @@
 -- The tests of the contents and the bodies decide whether the sets are sound and written as these bytes.
+use Rattle.std.specs.Prelude.{if◌then◌else◌}
 use Prim.Native.Nat.{ℕ, zero, suc, ◌+◌, ◌*◌, ◌^◌, ◌≤◌, ◌<◌}
 use mathlib.Core.Path.{◌≡◌, refl, sym, ap, ◌∙◌}
 use mathlib.Core.Bool.{Bool, true, false}
@@ -9,7 +10,7 @@ use lib.ListN.{length, drop, length-append}
 use lib.Dec.{eqb}
 use Rattle.words.specs.Words.{Bytes, le, word}
 use Rattle.words.specs.WordLaws.{word_fits}
-use Rattle.rules.specs.Lists.{◌and◌, ◌or◌, if◌then◌else◌, all, keep, count, flat, ascend_from, ascend, same}
+use Rattle.rules.specs.Lists.{◌and◌, ◌or◌, all, keep, count, flat, ascend_from, ascend, same}
 use Rattle.rules.specs.Numbers.{master_of}
 use Rattle.rules.specs.Sheet.{csn_of, sets_of, sound_records, sound_set, records_bytes, records_in, contents_from, bodies, sets_in}
 use Rattle.laws.specs.Tests.{left, right, both}

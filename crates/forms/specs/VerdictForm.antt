@@ -1,9 +1,8 @@
 -- The verdicts of a closing as code reads them: 5 bytes a set, code u8 and key u32.
-use Rattle.std.specs.Prelude.{ℕ, zero, suc, ◌+◌, ◌*◌, List, [], ◌∷◌, get_or, eqb}
+use Rattle.std.specs.Prelude.{ℕ, zero, suc, ◌+◌, ◌*◌, List, [], ◌∷◌, get_or, eqb, if◌then◌else◌}
 use Rattle.words.specs.Words.{Bytes, word}
 use Rattle.rules.specs.declared.answer.Verdict.{Verdict}
 use Rattle.rules.specs.declared.answer.Verdict.TheVariants.{Commit, Lost, Unfit}
-use Rattle.rules.specs.Lists.{if◌then◌else◌}
 
 -- how long n verdicts are
 abbrev pub verdicts_length : ℕ → ℕ

@@ -1,4 +1,5 @@
 -- What putting in an offer comes to, over plain values: the refusals in their order, and joining with the sheet of that one offer.
+use Rattle.std.specs.Prelude.{if◌then◌else◌}
 use Prim.Native.Nat.{ℕ, ◌^◌, ◌<◌, ◌≤◌}
 use mathlib.Core.Path.{◌≡◌, refl, sym, ◌∙◌, ap, ap₂}
 use mathlib.Core.Bool.{Bool, true, false, not, false≢true}
@@ -15,7 +16,7 @@ use Rattle.rules.specs.declared.answer.Refusal.{Refusal}
 use Rattle.rules.specs.declared.answer.Refusal.TheVariants.{SheetIllFormed, OfferIllFormed, WrongEpoch, WrongRoster, BufferShort}
 use Rattle.rules.specs.declared.answer.Answer.TheVariants as answer
 use Rattle.rules.specs.Answers.{refusal_number}
-use Rattle.rules.specs.Lists.{◌and◌, if◌then◌else◌}
+use Rattle.rules.specs.Lists.{◌and◌}
 use Rattle.rules.specs.Numbers.{master_of}
 use Rattle.rules.specs.Sheet.{Sheet, max_sets, in_roster, sound_set, sound_sheet, sheet_bytes, sheet_in, is_sheet, read_sheet, offered_records, are_records, read_records}
 use Rattle.rules.specs.Gathering.{Offer, a_set, a_notice, sound_of, holding, with_offer, joined}

@@ -1,8 +1,8 @@
 -- What an offer meets at a sheet: whether it is well-formed, and the refusals that a well-formed one may meet.
-use Rattle.std.specs.Prelude.{ℕ, ◌≤◌, ◌≡◌, Bool, true, not, ltb, leb, eqb}
+use Rattle.std.specs.Prelude.{ℕ, ◌≤◌, ◌≡◌, Bool, true, not, ltb, leb, eqb, if◌then◌else◌}
 use Rattle.words.specs.Words.{Bytes}
 use Rattle.rules.specs.declared.answer.Refusal.TheVariants.{WrongEpoch, WrongRoster, BufferShort}
-use Rattle.rules.specs.Lists.{◌and◌, if◌then◌else◌}
+use Rattle.rules.specs.Lists.{◌and◌}
 use Rattle.rules.specs.Sheet.{Sheet, max_sets, in_roster, are_records}
 use Rattle.rules.specs.Refused.{sheet_room}
 use Rattle.gather.specs.declared.offer.Admission.{Admission}

@@ -1,4 +1,5 @@
 -- What was joined into a buffer of its own, and copied from there, is joined in place; what is joined is a sheet, and joining refuses with 2, 4 or 5.
+use Rattle.std.specs.Prelude.{if◌then◌else◌}
 use Prim.Native.Nat.{ℕ, ◌≤◌}
 use mathlib.Core.Path.{◌≡◌, sym, subst, ◌∙◌, ap}
 use mathlib.Core.Bool.{Bool, true, false, not}
@@ -12,7 +13,6 @@ use Rattle.rules.specs.declared.answer.Refusal.{Refusal}
 use Rattle.rules.specs.declared.answer.Answer.{Answer}
 use Rattle.rules.specs.declared.answer.Answer.TheVariants.{Wrote, Refused}
 use Rattle.rules.specs.Answers.{refusal_number, answer_numbers}
-use Rattle.rules.specs.Lists.{if◌then◌else◌}
 use Rattle.rules.specs.Sheet.{Sheet, is_sheet, read_sheet}
 use Rattle.rules.specs.Refused.{Outcome, refused, done, sheet_room, join_sheets, join_outcome}
 use Rattle.rules.specs.Promises.{over, Promise}

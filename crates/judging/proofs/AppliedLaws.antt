@@ -1,4 +1,5 @@
 -- What the sets from set i on apply that commit by a table: what there is for a key, and how many records there are of a kind.
+use Rattle.std.specs.Prelude.{if◌then◌else◌}
 use Prim.Native.Nat.{ℕ, suc, ◌+◌, ◌-◌, ◌≤◌, ◌<◌}
 use mathlib.Core.Path.{◌≡◌, refl, sym, ◌∙◌, ap}
 use mathlib.Core.Bool.{Bool, true, false}
@@ -12,7 +13,7 @@ use lib.ListN.{length, take, length-append}
 use lib.Dec.{eqb}
 use Rattle.rules.specs.declared.mark.Mark.{Mark}
 use Rattle.rules.specs.declared.row.Record.{Record}
-use Rattle.rules.specs.Lists.{if◌then◌else◌, keep, first, flat, count, up_from}
+use Rattle.rules.specs.Lists.{keep, first, flat, count, up_from}
 use Rattle.rules.specs.Sheet.{WriteSet, Sheet}
 use Rattle.rules.specs.Closing.{names, mark_in}
 use Rattle.rules.specs.Becoming.{applied, applied_to, committed_on}

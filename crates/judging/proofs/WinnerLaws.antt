@@ -1,4 +1,5 @@
 -- Who leads among the sets before set i: no set that claims the key, or one that precedes every other; after the last set, the winner.
+use Rattle.std.specs.Prelude.{if◌then◌else◌}
 use Prim.Native.Nat.{ℕ, ◌+◌, ◌≤◌, ◌<◌}
 use mathlib.Core.Path.{◌≡◌, refl, sym, ◌∙◌, ap, ap₂}
 use mathlib.Core.Logic.{◌⊎◌, inl, inr, ⊎_elim}
@@ -13,7 +14,7 @@ use lib.ListN.{length}
 use lib.Dec.{eqb}
 use Rattle.rules.specs.declared.mark.Mark.{Mark}
 use Rattle.rules.specs.declared.row.Record.{Record}
-use Rattle.rules.specs.Lists.{◌and◌, ◌or◌, if◌then◌else◌, any, first}
+use Rattle.rules.specs.Lists.{◌and◌, ◌or◌, any, first}
 use Rattle.rules.specs.Numbers.{precedes}
 use Rattle.rules.specs.Register.{Register}
 use Rattle.rules.specs.Sheet.{WriteSet, Sheet, csn_of, sound_sheet}

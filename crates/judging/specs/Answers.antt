@@ -1,10 +1,9 @@
 -- What the answers 'this or nothing' mean: the first key of which something holds, how a key is recorded, what is applied to it, and who
 -- wins it.
-use Rattle.std.specs.Prelude.{ℕ, ◌≡◌, Bool, false, List, ltb, eqb}
+use Rattle.std.specs.Prelude.{ℕ, ◌≡◌, Bool, false, List, ltb, eqb, if◌then◌else◌}
 use Rattle.std.proofs.Math.Option.{Option, none, some}
 use Rattle.rules.specs.declared.mark.Mark.{Mark}
 use Rattle.rules.specs.declared.row.Record.{Record}
-use Rattle.rules.specs.Lists.{if◌then◌else◌}
 use Rattle.rules.specs.Numbers.{earlier}
 use Rattle.rules.specs.Sheet.{WriteSet, Sheet}
 use Rattle.rules.specs.Closing.{mark_in}

@@ -1,6 +1,6 @@
 -- The tables of closing: for each set of a sheet the first key found wrong, and the first key lost.
-use Rattle.std.specs.Prelude.{ℕ, ◌<◌, ◌≡◌, Bool, true, false, List, map, length, get_or, eqb}
-use Rattle.rules.specs.Lists.{◌and◌, if◌then◌else◌, keep, up_from}
+use Rattle.std.specs.Prelude.{ℕ, ◌<◌, ◌≡◌, Bool, true, false, List, map, length, get_or, eqb, if◌then◌else◌}
+use Rattle.rules.specs.Lists.{◌and◌, keep, up_from}
 use Rattle.rules.specs.Register.{Register}
 use Rattle.rules.specs.Sheet.{WriteSet, Sheet}
 use Rattle.rules.specs.Closing.{names, first_wrong, first_lost}

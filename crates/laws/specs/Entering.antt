@@ -1,6 +1,6 @@
 -- ENTERING: where it is not refused the open set has exactly that record more, in key order; what is no open set, and a tag that is not right, is refused.
 use Prim.Native.Nat.{ℕ, suc, ◌≤◌, ◌<◌}
-use Rattle.std.specs.Prelude.{◌≡◌, ◌⊎◌, Bool, not, ltb, leb, eqb}
+use Rattle.std.specs.Prelude.{◌≡◌, ◌⊎◌, Bool, not, ltb, leb, eqb, if◌then◌else◌}
 use Rattle.std.proofs.Math.Path.{refl, ap}
 use Rattle.std.proofs.Common.{sym, ◌∙◌, arith, ltb-true, ltb-false, eqb-true, eq-eqb, leb-false}
 use Rattle.std.proofs.Math.Logic.{inl, inr, ⊎_elim}
@@ -15,7 +15,7 @@ use Rattle.std.proofs.Math.ListN.{length}
 use Rattle.words.specs.Words.{Bytes}
 use Rattle.rules.specs.declared.row.Record.{Record}
 use Rattle.rules.specs.declared.desk.OpenSet.{OpenSet}
-use Rattle.rules.specs.Lists.{◌and◌, ◌or◌, if◌then◌else◌, all}
+use Rattle.rules.specs.Lists.{◌and◌, ◌or◌, all}
 use Rattle.rules.specs.Sheet.{max_records, record_key, is_kind, sound_value, sound_record}
 use Rattle.rules.specs.Tag.{right_tag, is_key, is_tag, key_in, key_of_tag}
 use Rattle.rules.specs.OpenSet.{sound_open, is_open_set, read_open, open_records, has_key, put_record}

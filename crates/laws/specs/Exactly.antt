@@ -1,6 +1,6 @@
 -- REFUSED EXACTLY WHEN: each operation's outcome is the table of refusals, read row by row. It is refused with a number just when
 -- that is the foremost that applies, and else done, with the result that the documents name.
-use Rattle.std.specs.Prelude.{ℕ, zero, suc, ◌+◌, ◌*◌, ◌<◌, ◌≤◌, ◌≡◌, Bool, not, length, get_or, ltb, leb, eqb}
+use Rattle.std.specs.Prelude.{ℕ, zero, suc, ◌+◌, ◌*◌, ◌<◌, ◌≤◌, ◌≡◌, Bool, not, length, get_or, ltb, leb, eqb, if◌then◌else◌}
 use Rattle.std.proofs.Math.Path.{refl, ap}
 use Rattle.std.proofs.Common.{sym, ◌∙◌, arith, ltb-false, le-ltb, leb-true, le-leb, ne_eqb}
 use Rattle.std.proofs.Math.Bool.{true, false}
@@ -15,7 +15,7 @@ use Rattle.rules.specs.declared.row.Read.{Read}
 use Rattle.rules.specs.declared.desk.OpenSet.{OpenSet}
 use Rattle.rules.specs.declared.answer.Refusal.{Refusal}
 use Rattle.rules.specs.declared.answer.Refusal.TheVariants.{RegisterIllFormed, SheetIllFormed, OfferIllFormed, WrongEpoch, WrongRoster, Spoiled, Incomplete, TooManyRows, BufferShort, CheckIllFormed, BadTag, KeyEntered, NinthRecord}
-use Rattle.rules.specs.Lists.{◌and◌, ◌or◌, if◌then◌else◌, all, any, first, ascend_from}
+use Rattle.rules.specs.Lists.{◌and◌, ◌or◌, all, any, first, ascend_from}
 use Rattle.rules.specs.Numbers.{master_of}
 use Rattle.rules.specs.Forms.{read}
 use Rattle.rules.specs.Register.{Register, max_rows, register_in, is_register, read_register}

@@ -1,12 +1,12 @@
 -- Laws of reading a form: a sound value comes back from its bytes, and what is read is written as the bytes that were read.
-use Rattle.std.specs.Prelude.{ℕ, ◌<◌, ◌^◌, ◌≡◌, Bool, List, [], ◌∷◌, eqb}
+use Rattle.std.specs.Prelude.{ℕ, ◌<◌, ◌^◌, ◌≡◌, Bool, List, [], ◌∷◌, eqb, if◌then◌else◌}
 use Rattle.std.proofs.Math.Path.{refl, sym, ap}
 use Rattle.std.proofs.Common.{◌∙◌, ap₂, ltb-true, lt-ltb, eqb-true, eq-eqb}
 use Rattle.std.proofs.Math.Bool.{true, false}
 use Rattle.std.proofs.lemmas.Bool.{false≢true}
 use Rattle.std.proofs.Math.Option.{none, some, some-injective, none-ne-some}
 use Rattle.words.specs.Words.{Bytes}
-use Rattle.rules.specs.Lists.{◌and◌, if◌then◌else◌, same}
+use Rattle.rules.specs.Lists.{◌and◌, same}
 use Rattle.rules.specs.Numbers.{fits}
 use Rattle.rules.specs.Forms.{well_formed, read}
 use Rattle.laws.specs.Tests.{left, right, both}

@@ -1,9 +1,9 @@
 -- Gathering that began at given sheets: the spoiled sheet if one of them was spoiled, else the sheet of all the offers. The laws of what
 -- is gathered hold of it too.
-use Rattle.std.specs.Prelude.{ℕ, ◌≡◌, Bool, true, false, List, [], ◌∷◌, ◌++◌}
+use Rattle.std.specs.Prelude.{ℕ, ◌≡◌, Bool, true, false, List, [], ◌∷◌, ◌++◌, if◌then◌else◌}
 use Rattle.std.proofs.Math.Path.{refl}
 use Rattle.std.proofs.Common.{sym, ◌∙◌, ap₂, ⊎_elim, true≢false}
-use Rattle.rules.specs.Lists.{◌or◌, if◌then◌else◌}
+use Rattle.rules.specs.Lists.{◌or◌}
 use Rattle.rules.specs.Sheet.{Sheet, sound_sheet}
 use Rattle.rules.specs.Gathering.{Offer, spoils, spoiled_sheet, gathered, offers_of, with_offer, joined}
 use Rattle.laws.specs.Tests.{or→}

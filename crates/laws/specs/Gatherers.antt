@@ -1,9 +1,9 @@
 -- Demand 3 asked of any four operations: those of document 01 meet it, and three wrong versions do not, each on the example that
 -- document 01 names. The wrong ones refuse just what the paper refuses, and write another sheet.
-use Rattle.std.specs.Prelude.{ℕ, ◌≡◌, refl, Bool, not, List, [], ◌∷◌, ◌++◌, length, get_or, eqb}
+use Rattle.std.specs.Prelude.{ℕ, ◌≡◌, refl, Bool, not, List, [], ◌∷◌, ◌++◌, length, get_or, eqb, if◌then◌else◌}
 use Rattle.std.proofs.Common.{◌∙◌, ap, arith}
 use Rattle.words.specs.Words.{Bytes}
-use Rattle.rules.specs.Lists.{if◌then◌else◌, any}
+use Rattle.rules.specs.Lists.{any}
 use Rattle.rules.specs.Sheet.{Sheet, change, masters, sets_of, allows, records_bytes, offered_records, sheet_bytes, sheet_in}
 use Rattle.rules.specs.Gathering.{Offer, a_set, a_notice, sets_among, notices_among, notice_of, spoiled_sheet, offers_of}
 use Rattle.rules.specs.Refused.{Outcome, refused, done, sheet_room, open_outcome, put_outcome, notice_outcome, join_outcome, run_refused}

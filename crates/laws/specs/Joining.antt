@@ -1,5 +1,5 @@
 -- Joining two sound sheets, said of their sets and notice bytes: the reasons that spoil it as code can test them, and what is held else.
-use Rattle.std.specs.Prelude.{ℕ, min, ◌<◌, ◌≤◌, ◌≡◌, ◌⊎◌, Bool, length, get_or, eqb}
+use Rattle.std.specs.Prelude.{ℕ, min, ◌<◌, ◌≤◌, ◌≡◌, ◌⊎◌, Bool, length, get_or, eqb, if◌then◌else◌}
 use Rattle.std.proofs.Math.Path.{refl, ap₂}
 use Rattle.std.proofs.Common.{sym, ◌∙◌, ap, inl, inr, ⊎_elim, arith, leb-true, eqb-true, eq-eqb, ne_eqb}
 use Rattle.std.proofs.Math.Bool.{true, false, not}
@@ -8,7 +8,7 @@ use mathlib.Core.List.{List, [], ◌∷◌, ◌++◌, map, append-nil, Memᴰ}
 use Rattle.std.proofs.Math.Decide.{ℕ_discrete}
 use Rattle.std.proofs.lemmas.Bool.{eqb-false, not-true}
 use Rattle.std.proofs.Math.Dec.{ltb}
-use Rattle.rules.specs.Lists.{◌and◌, ◌or◌, if◌then◌else◌, any, flat}
+use Rattle.rules.specs.Lists.{◌and◌, ◌or◌, any, flat}
 use Rattle.rules.specs.Sheet.{WriteSet, Sheet, no_notice, max_sets, masters, in_roster, sets_of, allows, sound_set, sound_notice, sound_sheet}
 use Rattle.rules.specs.Gathering.{Notice, a_set, a_notice, set_in, notice_in, sets_among, notices_among, some_two, clash, differ, distinct, notice_of, shared_csn, two_notices, too_many, over_notice, spoils, sound_of, spoiled_sheet, holding, gathered, noticed, offers_of, joined}
 use Rattle.laws.specs.Tests.{left, right, both, or→, same_tests}

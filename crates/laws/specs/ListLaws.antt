@@ -1,5 +1,5 @@
 -- Laws of lists by their elements: `Sub xs ys` says that each element of xs is one of ys.
-use Rattle.std.specs.Prelude.{ℕ, zero, suc, ◌+◌, ◌<◌, ◌≤◌, ◌≡◌, Bool, get_or}
+use Rattle.std.specs.Prelude.{ℕ, zero, suc, ◌+◌, ◌<◌, ◌≤◌, ◌≡◌, Bool, get_or, if◌then◌else◌}
 use Rattle.std.proofs.Math.Path.{refl, sym, ap}
 use Rattle.std.proofs.Common.{◌∙◌, arith}
 use Rattle.std.proofs.Math.Logic.{⊎_elim}
@@ -10,7 +10,7 @@ use mathlib.Core.List.{List, [], ◌∷◌, ◌++◌, map, Memᴰ, append_assoc,
 use Rattle.std.proofs.Math.Option.{none, some, some-injective, none-ne-some}
 use Rattle.std.proofs.Math.Decide.{ℕ_discrete}
 use Rattle.laws.specs.Tests.{left, right, both, or→, or_left, or_right}
-use Rattle.rules.specs.Lists.{if◌then◌else◌, all, any, keep, first, flat, up_from}
+use Rattle.rules.specs.Lists.{all, any, keep, first, flat, up_from}
 
 module _ {A : Type 0} where
   -- each element of the first list is one of the second

@@ -1,13 +1,12 @@
 -- A ROW'S MARK CHANGES ONLY WHEN ITS WINNER COMMITS: the committed set on a key is the winner, where the winner commits; so a loser
 -- stamps nothing, and an old row stands as it stood or its winner committed.
-use Rattle.std.specs.Prelude.{ℕ, ◌≡◌, refl, ◌⊎◌, Bool, true, false}
+use Rattle.std.specs.Prelude.{ℕ, ◌≡◌, refl, ◌⊎◌, Bool, true, false, if◌then◌else◌}
 use Rattle.std.proofs.Common.{sym, ◌∙◌, inl, inr}
 use Rattle.std.proofs.Math.Path.{ap}
 use mathlib.Core.List.{Memᴰ}
 use Rattle.std.proofs.Math.Option.{Option, none, some, some-injective, none-ne-some}
 use Rattle.rules.specs.declared.mark.Mark.{Mark}
 use Rattle.rules.specs.declared.row.Row.{Row}
-use Rattle.rules.specs.Lists.{if◌then◌else◌}
 use Rattle.rules.specs.Register.{Register, key_of, sound_register}
 use Rattle.rules.specs.Sheet.{WriteSet, Sheet, sound_sheet}
 use Rattle.rules.specs.Closing.{names, mark_in, winner, wins, commits, committed}

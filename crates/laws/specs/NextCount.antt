@@ -1,7 +1,7 @@
 -- How many rows the next register has, whatever chose the committed sets: the old ones and the committed inserts, less the committed
 -- deletes. So room freed by deletes in an epoch serves that epoch's inserts.
 use Prim.Native.Nat.{ℕ, suc, ◌+◌, ◌≤◌, ◌<◌}
-use Rattle.std.specs.Prelude.{◌≡◌, Bool, ltb, eqb}
+use Rattle.std.specs.Prelude.{◌≡◌, Bool, ltb, eqb, if◌then◌else◌}
 use Rattle.std.proofs.Math.Path.{refl, sym, ap}
 use Rattle.std.proofs.Common.{◌∙◌, ⊎_elim}
 use Rattle.std.proofs.Math.Bool.{true, false}
@@ -14,7 +14,7 @@ use borrow.Author.Tests.{eqb-true}
 use Rattle.std.proofs.Math.ListN.{length, length-map}
 use Rattle.rules.specs.declared.row.Row.{Row}
 use Rattle.rules.specs.declared.row.Record.{Record}
-use Rattle.rules.specs.Lists.{if◌then◌else◌, keep, flat, count}
+use Rattle.rules.specs.Lists.{keep, flat, count}
 use Rattle.rules.specs.Register.{Register, key_of, sound_register}
 use Rattle.rules.specs.Sheet.{WriteSet, Sheet, record_key, insert, delete, sound_sheet}
 use Rattle.rules.specs.Becoming.{applied, applied_to, is_deleted, row_after, inserted_row, put_row, put_rows, rows_after}

@@ -1,6 +1,6 @@
 -- The next rows, whatever chose the committed sets: their keys strictly ascend, and they are exactly the old rows that remain and the
 -- rows of the inserts. A list of rows that ascends and has just these is the list of the next rows.
-use Rattle.std.specs.Prelude.{◌<◌, ◌≡◌, ◌⊎◌, Bool, ltb}
+use Rattle.std.specs.Prelude.{◌<◌, ◌≡◌, ◌⊎◌, Bool, ltb, if◌then◌else◌}
 use Rattle.std.proofs.Math.Path.{refl, sym, ap}
 use Rattle.std.proofs.Common.{◌∙◌}
 use Rattle.std.proofs.Math.Logic.{inl, inr, ⊎_elim}
@@ -12,7 +12,7 @@ use borrow.Author.Tests.{ltb-true, ltb-false, eqb-true, eq-eqb, not-true}
 use Rattle.std.proofs.Math.Dec.{eqb}
 use Rattle.rules.specs.declared.row.Row.{Row}
 use Rattle.rules.specs.declared.row.Record.{Record}
-use Rattle.rules.specs.Lists.{if◌then◌else◌, keep, flat, ascend_from}
+use Rattle.rules.specs.Lists.{keep, flat, ascend_from}
 use Rattle.rules.specs.Register.{Register, key_of, sound_register}
 use Rattle.rules.specs.Sheet.{WriteSet, Sheet, insert, sound_sheet}
 use Rattle.rules.specs.Closing.{present, fit_record}

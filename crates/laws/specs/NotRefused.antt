@@ -1,12 +1,12 @@
 -- What follows from an operation not being refused: what it was given is fair, the buffer is long enough, and what it wrote is the
 -- sheet's bytes. And that this is all that it takes (`→open`, `→offer`, `→join`).
-use Rattle.std.specs.Prelude.{ℕ, ◌≤◌, ◌≡◌, refl, Bool, true, false, List, ltb, leb, eqb}
+use Rattle.std.specs.Prelude.{ℕ, ◌≤◌, ◌≡◌, refl, Bool, true, false, List, ltb, leb, eqb, if◌then◌else◌}
 use Rattle.std.proofs.Common.{sym, ◌∙◌, ap, arith, ltb-false, leb-true, le-leb, le-ltb, eqb-true, eq-eqb, ne_eqb}
 use Rattle.std.proofs.Math.Option.{Option, none, some, some-injective, none-ne-some}
 use Rattle.std.proofs.lemmas.Bool.{eqb-false, not-false}
 use Rattle.words.specs.Words.{Bytes}
 use Rattle.rules.specs.declared.row.Record.{Record}
-use Rattle.rules.specs.Lists.{◌and◌, if◌then◌else◌}
+use Rattle.rules.specs.Lists.{◌and◌}
 use Rattle.rules.specs.Forms.{well_formed, read}
 use Rattle.rules.specs.Sheet.{WriteSet, Sheet, max_sets, in_roster, sound_records, sound_sheet, records_bytes, sheet_bytes, read_sheet, read_records, offered_records}
 use Rattle.rules.specs.Gathering.{Offer, a_set, a_notice, empty_sheet, with_offer, joined}

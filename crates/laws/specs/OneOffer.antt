@@ -1,9 +1,9 @@
 -- The sheet of one offer: it is sound, and putting an offer in is joining with it.
-use Rattle.std.specs.Prelude.{ℕ, ◌≡◌, Bool, true, [], ◌∷◌, ◌++◌, leb}
+use Rattle.std.specs.Prelude.{ℕ, ◌≡◌, Bool, true, [], ◌∷◌, ◌++◌, leb, if◌then◌else◌}
 use Rattle.std.proofs.Math.Path.{refl}
 use Rattle.std.proofs.Common.{sym, ◌∙◌, ap, arith, eq-eqb, le-leb}
 use Rattle.std.proofs.Math.Bool.{false}
-use Rattle.rules.specs.Lists.{◌and◌, ◌or◌, if◌then◌else◌, any, flat, keep, count, up_from}
+use Rattle.rules.specs.Lists.{◌and◌, ◌or◌, any, flat, keep, count, up_from}
 use Rattle.rules.specs.Sheet.{Sheet, sets_of, allows, sound_sheet}
 use Rattle.rules.specs.Gathering.{Offer, a_set, a_notice, set_in, notice_in, sets_among, notices_among, clash, differ, some_two, put_set, distinct, notice_of, shared_csn, two_notices, too_many, over_notice, spoils, sound_of, spoiled_sheet, holding, gathered, offers_of, with_offer, joined}
 use Rattle.laws.specs.ListLaws.{sub_append_right}

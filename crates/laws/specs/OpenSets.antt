@@ -1,13 +1,13 @@
 -- An open set comes back from its struct, and the struct from what was read: one encoding. What of a struct's bytes decides that it is one,
 -- and that its record bytes are those of a set that can be offered just when it is not empty.
-use Rattle.std.specs.Prelude.{ℕ, zero, suc, ◌-◌, ◌*◌, ◌/◌, ◌≤◌, ◌≡◌, refl, Bool, true, List, [], ◌∷◌, ◌++◌, map, length, take, drop, replicate, leb, eqb}
+use Rattle.std.specs.Prelude.{ℕ, zero, suc, ◌-◌, ◌*◌, ◌/◌, ◌≤◌, ◌≡◌, refl, Bool, true, List, [], ◌∷◌, ◌++◌, map, length, take, drop, replicate, leb, eqb, if◌then◌else◌}
 use Rattle.std.proofs.Common.{sym, ◌∙◌, ap, ap₂, append-nil, arith, eqb-true, eq-eqb, length-take, length-drop, take-append-drop, take_at, drop_at}
 use Rattle.std.proofs.Math.Bool.{false}
 use Rattle.std.proofs.Math.Option.{none, some, some-injective, none-ne-some}
 use Rattle.words.specs.Words.{Bytes}
 use Rattle.rules.specs.declared.row.Record.{Record}
 use Rattle.rules.specs.declared.desk.OpenSet.{OpenSet}
-use Rattle.rules.specs.Lists.{◌and◌, if◌then◌else◌, all, flat, ascend_from}
+use Rattle.rules.specs.Lists.{◌and◌, all, flat, ascend_from}
 use Rattle.rules.specs.Forms.{well_formed}
 use Rattle.rules.specs.Sheet.{record_key, sound_record, sound_records, records_bytes, records_in, offered_records, are_records}
 use Rattle.rules.specs.OpenSet.{sound_open, open_set_of, empty_set, open_records, same_open, is_open_set, read_open, offered_bytes}

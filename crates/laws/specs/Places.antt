@@ -1,6 +1,6 @@
 -- Lists by their places: members, the first that passes a test from a place on, those that pass, and numbers that rise.
 use Prim.Native.Nat.{ℕ, zero, suc, ◌+◌, ◌≤◌, ◌<◌}
-use Rattle.std.specs.Prelude.{◌≡◌, Bool, get_or, take, drop, set}
+use Rattle.std.specs.Prelude.{◌≡◌, Bool, get_or, take, drop, set, if◌then◌else◌}
 use Rattle.std.proofs.Math.Path.{refl, sym, ap}
 use Rattle.std.proofs.Common.{◌∙◌, add-zero, add_comm, add_assoc, below_more, take_all, drop-cons, get_or-set_same, get_or-set_other}
 use Rattle.std.proofs.Math.Bool.{true, false}
@@ -9,7 +9,7 @@ use Rattle.std.proofs.Math.Option.{none, some}
 use Rattle.std.proofs.Math.Numerals.{add-one}
 use native.Mathlib.Omega.{arith}
 use Rattle.std.proofs.Math.ListN.{length}
-use Rattle.rules.specs.Lists.{if◌then◌else◌, keep, first, count, up_from}
+use Rattle.rules.specs.Lists.{keep, first, count, up_from}
 use Rattle.laws.specs.Rising.{Rising, nil, cons}
 
 module _ {A : Type 0} (d : A) where

@@ -1,5 +1,5 @@
 -- Tags and keys: the tag of a key is right and has that key; a right tag is the tag of its key, so two keys have two tags and no station has two.
-use Rattle.std.specs.Prelude.{ℕ, zero, suc, ◌+◌, ◌*◌, ◌/◌, ◌%◌, ◌^◌, ◌≤◌, ◌<◌, ◌≡◌, refl, Bool, true, false, [], ◌∷◌, ◌++◌, length, get_or, take}
+use Rattle.std.specs.Prelude.{ℕ, zero, suc, ◌+◌, ◌*◌, ◌/◌, ◌%◌, ◌^◌, ◌≤◌, ◌<◌, ◌≡◌, refl, Bool, true, false, [], ◌∷◌, ◌++◌, length, get_or, take, if◌then◌else◌}
 use Rattle.std.proofs.Math.Path.{sym, ap}
 use Rattle.std.proofs.Common.{◌∙◌, add-mul, mul_assoc, mul-le-mul_right, lit<, length-take, length-append, take-suc, take_all, take_at}
 use Rattle.std.proofs.Math.Option.{none, some, some-injective, none-ne-some}
@@ -7,7 +7,7 @@ use Rattle.std.proofs.Math.Nat.{pow-succ', one-le-pow, mul-add-div_right, div-eq
 use native.Mathlib.Omega.{arith}
 use Rattle.std.proofs.Math.Arith.{mod-mul}
 use Rattle.words.specs.Words.{Bytes}
-use Rattle.rules.specs.Lists.{◌and◌, all, if◌then◌else◌}
+use Rattle.rules.specs.Lists.{◌and◌, all}
 use Rattle.rules.specs.Numbers.{fits}
 use Rattle.rules.specs.Tag.{step, is_digit, digit_of, steps, right_tag, number, key_in, is_key, is_tag, key_of_tag, digits, check_digit, tag_of, run_tag}
 use Rattle.laws.specs.Tests.{left, right, both}

@@ -1,8 +1,8 @@
 -- How a sheet may come about: opened or given, handed sets and notices, joined, in any order and grouping. A tree says what is asked of
 -- the operations, in the very numbers and bytes that a caller gives; a refusal anywhere ends it with that refusal.
-use Rattle.std.specs.Prelude.{ℕ, ◌≡◌, Bool, true, false, List, [], ◌∷◌, ◌++◌}
+use Rattle.std.specs.Prelude.{ℕ, ◌≡◌, Bool, true, false, List, [], ◌∷◌, ◌++◌, if◌then◌else◌}
 use Rattle.words.specs.Words.{Bytes}
-use Rattle.rules.specs.Lists.{◌and◌, ◌or◌, if◌then◌else◌}
+use Rattle.rules.specs.Lists.{◌and◌, ◌or◌}
 use Rattle.rules.specs.Numbers.{fits}
 use Rattle.rules.specs.Sheet.{Sheet, offered_records, sheet_in, is_sheet}
 use Rattle.rules.specs.Gathering.{Offer, a_set, a_notice, spoiled_sheet, gathered, offers_of}

@@ -1,4 +1,5 @@
 -- The next rows written in the order of their keys: `At` says where a walk over old rows and inserts stands, and what one step writes.
+use Rattle.std.specs.Prelude.{if◌then◌else◌}
 use Prim.Native.Nat.{ℕ, suc, ◌+◌, ◌≤◌, ◌<◌}
 use mathlib.Core.Path.{◌≡◌, refl, sym, ◌∙◌, ap}
 use mathlib.Core.Logic.{⊎_elim}
@@ -13,7 +14,7 @@ use lib.ListN.{length}
 use lib.Dec.{leb}
 use Rattle.rules.specs.declared.row.Row.{Row}
 use Rattle.rules.specs.declared.row.Record.{Record}
-use Rattle.rules.specs.Lists.{if◌then◌else◌, keep}
+use Rattle.rules.specs.Lists.{keep}
 use Rattle.rules.specs.Register.{Register, key_of, sound_register}
 use Rattle.rules.specs.Sheet.{WriteSet, Sheet, insert, record_key, sound_sheet}
 use Rattle.rules.specs.Becoming.{applied, applied_to, is_deleted, row_after, inserted_row, rows_after}

@@ -1,4 +1,5 @@
 -- A record put among records in key order, in bytes: those before its place, its own, those behind.
+use Rattle.std.specs.Prelude.{if◌then◌else◌}
 use Prim.Native.Nat.{ℕ, zero, suc, ◌+◌, ◌-◌, ◌*◌, ◌/◌, ◌%◌, ◌≤◌, ◌<◌}
 use mathlib.Core.Path.{◌≡◌, refl, sym, ap, ap₂, ◌∙◌}
 use mathlib.Core.Bool.{Bool, true, false}
@@ -11,7 +12,7 @@ use lib.Dec.{ltb}
 use Rattle.words.specs.Words.{Bytes, le, part, stored}
 use Rattle.words.specs.WordLaws.{le_length, then_stored, stored_front}
 use Rattle.rules.specs.declared.row.Record.{Record}
-use Rattle.rules.specs.Lists.{if◌then◌else◌, flat}
+use Rattle.rules.specs.Lists.{flat}
 use Rattle.rules.specs.Sheet.{record_bytes, records_bytes, records_in}
 use Rattle.rules.specs.OpenSet.{open_set_of, put_record}
 use Rattle.rules.specs.Refused.{record_of}

@@ -1,7 +1,6 @@
 -- Where a record with a key stands among records in key order.
-use Rattle.std.specs.Prelude.{ℕ, suc, List, [], ◌∷◌, ltb}
+use Rattle.std.specs.Prelude.{ℕ, suc, List, [], ◌∷◌, ltb, if◌then◌else◌}
 use Rattle.rules.specs.declared.row.Record.{Record}
-use Rattle.rules.specs.Lists.{if◌then◌else◌}
 
 -- how many of the records come before one with the key
 unfoldable pub records_before : ℕ → List Record → ℕ

@@ -1,4 +1,5 @@
 -- Two lists of numbers as one of entries.
+use Rattle.std.specs.Prelude.{if◌then◌else◌}
 use Prim.Native.Nat.{ℕ, zero, suc, ◌<◌}
 use mathlib.Core.Path.{◌≡◌, refl, ap}
 use mathlib.Core.Bool.{Bool, true, false}
@@ -7,7 +8,6 @@ use mathlib.Core.Option.{Option, none, some}
 use native.Mathlib.Omega.{arith}
 use lib.ListN.{length, get_or}
 use Rattle.words.specs.Words.{Bytes}
-use Rattle.rules.specs.Lists.{if◌then◌else◌}
 use Rattle.rules.specs.Register.{Register, read_register}
 use Rattle.rules.specs.ReadCheck.{Finding, check_from, with_read, reads_of}
 use Rattle.rules.specs.Refused.{refused, done, bad_check, check_reads, reads_outcome, check_outcome}

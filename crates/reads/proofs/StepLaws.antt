@@ -1,4 +1,5 @@
 -- The outcome of the read check, entry after entry.
+use Rattle.std.specs.Prelude.{if◌then◌else◌}
 use Prim.Native.Nat.{ℕ, suc, ◌+◌, ◌<◌, ◌≤◌}
 use mathlib.Core.Path.{◌≡◌, refl, sym, ◌∙◌, ap, ap₂}
 use mathlib.Core.Bool.{Bool, true, false, not, true≢false, false≢true}
@@ -14,7 +15,7 @@ use Rattle.rules.specs.declared.row.Read.{Read}
 use Rattle.rules.specs.declared.answer.Checked.{Checked}
 use Rattle.rules.specs.declared.answer.Checked.TheVariants.{Pass, Fails, Refused}
 use Rattle.rules.specs.declared.answer.Reason.{Reason}
-use Rattle.rules.specs.Lists.{◌and◌, ◌or◌, if◌then◌else◌, any}
+use Rattle.rules.specs.Lists.{◌and◌, ◌or◌, any}
 use Rattle.rules.specs.Register.{Register, register_in, is_register}
 use Rattle.rules.specs.ReadCheck.{snapshot_isolation, Finding, passes, failing, finding_or, check_from}
 use Rattle.rules.specs.Answers.{checked_numbers}

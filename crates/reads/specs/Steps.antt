@@ -1,12 +1,12 @@
 -- The read check in steps: what its small answers say, and how the outcome changes with one entry more.
-use Rattle.std.specs.Prelude.{ℕ, min, Bool, true, false, List, [], ◌∷◌, leb, eqb}
+use Rattle.std.specs.Prelude.{ℕ, min, Bool, true, false, List, [], ◌∷◌, leb, eqb, if◌then◌else◌}
 use Rattle.std.proofs.Math.Option.{Option, none, some}
 use Rattle.rules.specs.declared.row.Row.{Row}
 use Rattle.rules.specs.declared.row.Read.{Read}
 use Rattle.rules.specs.declared.answer.Reason.{Reason}
 use Rattle.rules.specs.declared.answer.Checked.{Checked}
 use Rattle.rules.specs.declared.answer.Checked.TheVariants.{Pass, Fails, Refused}
-use Rattle.rules.specs.Lists.{◌or◌, if◌then◌else◌, first}
+use Rattle.rules.specs.Lists.{◌or◌, first}
 use Rattle.rules.specs.Register.{Register}
 use Rattle.rules.specs.ReadCheck.{Finding, passes, fails, failing, finding_or}
 use Rattle.rules.specs.Answers.{refusal_number}

@@ -1,9 +1,9 @@
 -- How a register lies in bytes: where its rows stand, what of a row is tested, the length that a head tells, and the head. Only this crate uses places.
-use Rattle.std.specs.Prelude.{ℕ, zero, suc, ◌+◌, ◌*◌, Bool, ◌++◌, length, leb, ltb}
+use Rattle.std.specs.Prelude.{ℕ, zero, suc, ◌+◌, ◌*◌, Bool, ◌++◌, length, leb, ltb, if◌then◌else◌}
 use Rattle.words.specs.Words.{Bytes, le, word}
 use Rattle.rules.specs.declared.extent.Extent.{Extent}
 use Rattle.rules.specs.declared.extent.Extent.TheVariants.{Of, NoForm}
-use Rattle.rules.specs.Lists.{◌and◌, if◌then◌else◌}
+use Rattle.rules.specs.Lists.{◌and◌}
 use Rattle.rules.specs.Register.{max_rows}
 
 -- how long the head is: the snapshot and the row count

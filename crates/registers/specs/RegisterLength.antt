@@ -1,9 +1,9 @@
 -- What a head tells of a register's length, and within which bounds.
-use Rattle.std.specs.Prelude.{ℕ, ◌≤◌, ◌≡◌, refl, Bool, true, false, length, leb}
+use Rattle.std.specs.Prelude.{ℕ, ◌≤◌, ◌≡◌, refl, Bool, true, false, length, leb, if◌then◌else◌}
 use Rattle.std.proofs.Common.{sym, arith}
 use Rattle.words.specs.Words.{Bytes, word}
 use Rattle.rules.specs.declared.extent.Extent.TheVariants.{Of, NoForm}
-use Rattle.rules.specs.Lists.{◌and◌, if◌then◌else◌}
+use Rattle.rules.specs.Lists.{◌and◌}
 use Rattle.rules.specs.Register.{max_rows}
 use Rattle.rules.specs.Refused.{register_room}
 use Rattle.laws.specs.Says.{Says, no_of, is_le, ◌also◌}

@@ -1,11 +1,11 @@
 -- What the closing program prints, as bytes: document 01's report of a closed epoch, and of a refusal.
-use Rattle.std.specs.Prelude.{ℕ, zero, suc, ◌+◌, ◌*◌, ◌/◌, ◌%◌, ◌≡◌, List, [], ◌∷◌, ◌++◌, length, ltb}
+use Rattle.std.specs.Prelude.{ℕ, zero, suc, ◌+◌, ◌*◌, ◌/◌, ◌%◌, ◌≡◌, List, [], ◌∷◌, ◌++◌, length, ltb, if◌then◌else◌}
 use Rattle.words.specs.Words.{Bytes, stored, run_words}
 use Rattle.rules.specs.declared.mark.Mark.{Mark}
 use Rattle.rules.specs.declared.row.Row.{Row}
 use Rattle.rules.specs.declared.answer.Verdict.{Verdict}
 use Rattle.rules.specs.declared.answer.Verdict.TheVariants.{Commit, Lost, Unfit}
-use Rattle.rules.specs.Lists.{if◌then◌else◌, flat, run_lists}
+use Rattle.rules.specs.Lists.{flat, run_lists}
 use Rattle.rules.specs.Register.{Register, max_rows}
 use Rattle.rules.specs.Sheet.{max_sets}
 

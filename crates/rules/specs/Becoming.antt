@@ -1,11 +1,11 @@
 -- Document 01, 'Closing', and document 02, L1: what a row becomes, and the next rows, from any list of committed sets, whatever chose
 -- them; then the next register, from those that closing commits.
-use Rattle.std.specs.Prelude.{ℕ, ◌+◌, Bool, false, List, [], ◌∷◌, map, ltb, eqb}
+use Rattle.std.specs.Prelude.{ℕ, ◌+◌, Bool, false, List, [], ◌∷◌, map, ltb, eqb, if◌then◌else◌}
 use Rattle.std.proofs.Math.Option.{Option, none, some}
 use Rattle.rules.specs.declared.mark.Mark.{Mark}
 use Rattle.rules.specs.declared.row.Row.{Row}
 use Rattle.rules.specs.declared.row.Record.{Record}
-use Rattle.rules.specs.Lists.{if◌then◌else◌, keep, first, flat}
+use Rattle.rules.specs.Lists.{keep, first, flat}
 use Rattle.rules.specs.Numbers.{fresh}
 use Rattle.rules.specs.Register.{Register}
 use Rattle.rules.specs.Sheet.{WriteSet, Sheet, insert, delete}

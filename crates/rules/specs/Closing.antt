@@ -1,11 +1,11 @@
 -- Document 01, 'Closing': which sets are fit, who wins each key, the verdicts, and who commits.
-use Rattle.std.specs.Prelude.{ℕ, Bool, true, false, not, List, map, get_or, leb, eqb}
+use Rattle.std.specs.Prelude.{ℕ, Bool, true, false, not, List, map, get_or, leb, eqb, if◌then◌else◌}
 use Rattle.std.proofs.Math.Option.{Option, none, some}
 use Rattle.rules.specs.declared.mark.Mark.{Mark}
 use Rattle.rules.specs.declared.row.Record.{Record}
 use Rattle.rules.specs.declared.answer.Verdict.{Verdict}
 use Rattle.rules.specs.declared.answer.Verdict.TheVariants.{Commit, Lost, Unfit}
-use Rattle.rules.specs.Lists.{◌and◌, ◌or◌, if◌then◌else◌, all, any, keep, first}
+use Rattle.rules.specs.Lists.{◌and◌, ◌or◌, all, any, keep, first}
 use Rattle.rules.specs.Numbers.{mark_of, precedes}
 use Rattle.rules.specs.Register.{run_register, Register}
 use Rattle.rules.specs.Sheet.{run_sheet, WriteSet, Sheet, no_notice, insert, masters, in_roster, sets_of}

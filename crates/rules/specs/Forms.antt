@@ -1,8 +1,8 @@
 -- What it is to read a form: bytes are well-formed exactly if they are what a sound value is written as, so equal contents are equal bytes.
-use Rattle.std.specs.Prelude.{Bool}
+use Rattle.std.specs.Prelude.{Bool, if◌then◌else◌}
 use Rattle.std.proofs.Math.Option.{Option, none, some}
 use Rattle.words.specs.Words.{Bytes, run_words}
-use Rattle.rules.specs.Lists.{run_lists, ◌and◌, if◌then◌else◌, same}
+use Rattle.rules.specs.Lists.{run_lists, ◌and◌, same}
 
 module _ {A : Type 0} (decode : Bytes → A) (sound : A → Bool) (encode : A → Bytes) where
   -- the bytes are those of the value that they decode to, and it is sound

@@ -1,7 +1,7 @@
 -- Document 01, 'Gathering': the sheet of a number of offers. It looks only at which offers there are, not at their order or repeats.
-use Rattle.std.specs.Prelude.{ℕ, min, Bool, true, false, not, List, [], ◌∷◌, ◌++◌, map, length, replicate, get_or, ltb, eqb}
+use Rattle.std.specs.Prelude.{ℕ, min, Bool, true, false, not, List, [], ◌∷◌, ◌++◌, map, length, replicate, get_or, ltb, eqb, if◌then◌else◌}
 use Rattle.rules.specs.declared.row.Record.{Record}
-use Rattle.rules.specs.Lists.{◌and◌, ◌or◌, if◌then◌else◌, any, flat}
+use Rattle.rules.specs.Lists.{◌and◌, ◌or◌, any, flat}
 use Rattle.rules.specs.Sheet.{run_sheet, WriteSet, Sheet, no_notice, max_sets, masters, sets_of, allows}
 
 -- a master's number of sets

@@ -1,5 +1,5 @@
--- The words that the rules use of tests and lists: and, or, if; all, any, those that pass, the first that passes.
-use Rattle.std.specs.Prelude.{ℕ, zero, suc, Bool, true, false, List, [], ◌∷◌, ◌++◌, length, ltb, eqb}
+-- The words that the rules use of tests and lists: and, or; all, any, those that pass, the first that passes.
+use Rattle.std.specs.Prelude.{ℕ, zero, suc, Bool, true, false, List, [], ◌∷◌, ◌++◌, length, ltb, eqb, if◌then◌else◌}
 use Rattle.std.proofs.Math.Option.{Option, none, some}
 
 -- both
@@ -13,13 +13,6 @@ infixr 30 ◌or◌
 unfoldable pub ◌or◌ : Bool → Bool → Bool
 true or b = true
 false or b = b
-
-module _ {A : Type 0} where
-  -- the first where the test holds, else the second
-  infixr 20 if◌then◌else◌
-  abbrev pub if◌then◌else◌ : Bool → A → A → A
-  if true then a else b = a
-  if false then a else b = b
 
 module _ {A : Type 0} where
   -- each passes

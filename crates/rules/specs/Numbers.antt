@@ -1,8 +1,8 @@
 -- Document 01, 'Numbers': what fits where, masters, marks, and which of two marks precedes.
-use Rattle.std.specs.Prelude.{ℕ, ◌%◌, ◌^◌, Bool, ltb, eqb}
+use Rattle.std.specs.Prelude.{ℕ, ◌%◌, ◌^◌, Bool, ltb, eqb, if◌then◌else◌}
 use Rattle.rules.specs.declared.mark.Mark.{Mark}
 use Rattle.rules.specs.declared.row.Row.{Row}
-use Rattle.rules.specs.Lists.{run_lists, if◌then◌else◌}
+use Rattle.rules.specs.Lists.{run_lists}
 
 -- x can be written in n bytes: 4 for keys and epochs, 8 for values and commit numbers
 unfoldable pub fits : ℕ → ℕ → Bool

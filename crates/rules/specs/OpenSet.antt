@@ -1,10 +1,10 @@
 -- Document 02, L2: the visit desk's open set, 0 to 8 sound records in key order, filled where it stands; its struct, with one encoding.
-use Rattle.std.specs.Prelude.{ℕ, ◌-◌, ◌*◌, Bool, List, [], ◌∷◌, ◌++◌, map, length, replicate, leb, ltb, eqb}
+use Rattle.std.specs.Prelude.{ℕ, ◌-◌, ◌*◌, Bool, List, [], ◌∷◌, ◌++◌, map, length, replicate, leb, ltb, eqb, if◌then◌else◌}
 use Rattle.std.proofs.Math.Option.{Option, none, some}
 use Rattle.words.specs.Words.{Bytes}
 use Rattle.rules.specs.declared.row.Record.{Record}
 use Rattle.rules.specs.declared.desk.OpenSet.{OpenSet}
-use Rattle.rules.specs.Lists.{◌and◌, if◌then◌else◌, any, all, same, ascend_from}
+use Rattle.rules.specs.Lists.{◌and◌, any, all, same, ascend_from}
 use Rattle.rules.specs.Sheet.{run_sheet, max_records, record_key, sound_record, records_bytes, records_in}
 
 -- no to eight records, their keys strictly ascending from 1 on

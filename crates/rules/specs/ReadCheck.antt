@@ -1,11 +1,11 @@
 -- Document 01, 'Read check': whether what a depot read still stands.
-use Rattle.std.specs.Prelude.{ℕ, suc, ◌+◌, List, [], ◌∷◌, ltb, eqb}
+use Rattle.std.specs.Prelude.{ℕ, suc, ◌+◌, List, [], ◌∷◌, ltb, eqb, if◌then◌else◌}
 use Rattle.std.proofs.Math.Option.{Option, none, some}
 use Rattle.rules.specs.declared.row.Row.{Row}
 use Rattle.rules.specs.declared.row.Read.{Read}
 use Rattle.rules.specs.declared.answer.Reason.{Reason}
 use Rattle.rules.specs.declared.answer.Reason.TheVariants.{Gone, OtherCsn, TooNew}
-use Rattle.rules.specs.Lists.{if◌then◌else◌, first}
+use Rattle.rules.specs.Lists.{first}
 use Rattle.rules.specs.Register.{run_register, Register}
 
 -- mode 1

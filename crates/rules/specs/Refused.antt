@@ -1,13 +1,13 @@
 -- Document 01, 'What is refused', and document 02's refusals: what each operation does with the bytes and numbers it is given and the
 -- lengths of the buffers it is lent. The refusals of each are one chain, in the documents' order.
-use Rattle.std.specs.Prelude.{ℕ, ◌+◌, Bool, not, List, ◌∷◌, length, ltb, leb, eqb}
+use Rattle.std.specs.Prelude.{ℕ, ◌+◌, Bool, not, List, ◌∷◌, length, ltb, leb, eqb, if◌then◌else◌}
 use Rattle.std.proofs.Math.Option.{Option, none, some}
 use Rattle.words.specs.Words.{Bytes, le}
 use Rattle.rules.specs.declared.row.Record.{Record}
 use Rattle.rules.specs.declared.row.Read.{Read}
 use Rattle.rules.specs.declared.desk.OpenSet.{OpenSet}
 use Rattle.rules.specs.declared.answer.Verdict.{Verdict}
-use Rattle.rules.specs.Lists.{◌and◌, ◌or◌, if◌then◌else◌, any, flat}
+use Rattle.rules.specs.Lists.{◌and◌, ◌or◌, any, flat}
 use Rattle.rules.specs.Numbers.{master_of}
 use Rattle.rules.specs.Register.{Register, max_rows, register_bytes, read_register}
 use Rattle.rules.specs.Sheet.{Sheet, max_sets, max_records, in_roster, is_kind, sound_value, sheet_bytes, read_sheet, read_records}

@@ -1,9 +1,9 @@
 -- Document 01, 'Sheet': its contents, when they are sound, and its bytes.
-use Rattle.std.specs.Prelude.{ℕ, zero, suc, ◌+◌, ◌*◌, ◌/◌, ◌%◌, ◌^◌, Bool, not, List, [], ◌∷◌, ◌++◌, map, length, get_or, leb, eqb}
+use Rattle.std.specs.Prelude.{ℕ, zero, suc, ◌+◌, ◌*◌, ◌/◌, ◌%◌, ◌^◌, Bool, not, List, [], ◌∷◌, ◌++◌, map, length, get_or, leb, eqb, if◌then◌else◌}
 use Rattle.std.proofs.Math.Option.{Option}
 use Rattle.words.specs.Words.{Bytes, le, word, part}
 use Rattle.rules.specs.declared.row.Record.{Record}
-use Rattle.rules.specs.Lists.{up_from, ◌and◌, ◌or◌, if◌then◌else◌, all, flat, count, ascend_from, ascend}
+use Rattle.rules.specs.Lists.{up_from, ◌and◌, ◌or◌, all, flat, count, ascend_from, ascend}
 use Rattle.rules.specs.Numbers.{run_numbers, fits, master_of}
 use Rattle.rules.specs.Forms.{run_forms, well_formed, read}
 

@@ -1,9 +1,9 @@
 -- Document 02, L2: a station's tag is eleven ASCII digits, ten for the key and one check digit by the ten by ten table of H. M. Damm,
 -- 'Total anti-symmetrische Quasigruppen', 2004.
-use Rattle.std.specs.Prelude.{ℕ, zero, suc, ◌+◌, ◌-◌, ◌*◌, ◌/◌, ◌%◌, ◌^◌, Bool, List, [], ◌∷◌, ◌++◌, length, get_or, set, take, leb, eqb}
+use Rattle.std.specs.Prelude.{ℕ, zero, suc, ◌+◌, ◌-◌, ◌*◌, ◌/◌, ◌%◌, ◌^◌, Bool, List, [], ◌∷◌, ◌++◌, length, get_or, set, take, leb, eqb, if◌then◌else◌}
 use Rattle.std.proofs.Math.Option.{Option, none, some}
 use Rattle.words.specs.Words.{Bytes}
-use Rattle.rules.specs.Lists.{◌and◌, if◌then◌else◌, all, run_lists}
+use Rattle.rules.specs.Lists.{◌and◌, all, run_lists}
 use Rattle.rules.specs.Numbers.{fits, run_numbers}
 
 -- Damm's table: the row is the interim digit, the column the digit that comes next

@@ -1,9 +1,9 @@
 -- How long a sheet is, as a reader of a stream learns it: first from its head, then from its contents.
-use Rattle.std.specs.Prelude.{ℕ, zero, suc, ◌+◌, ◌*◌, length, get_or, leb}
+use Rattle.std.specs.Prelude.{ℕ, zero, suc, ◌+◌, ◌*◌, length, get_or, leb, if◌then◌else◌}
 use Rattle.words.specs.Words.{Bytes, word}
 use Rattle.rules.specs.declared.extent.Extent.{Extent}
 use Rattle.rules.specs.declared.extent.Extent.TheVariants.{Of, NoForm}
-use Rattle.rules.specs.Lists.{◌and◌, if◌then◌else◌}
+use Rattle.rules.specs.Lists.{◌and◌}
 use Rattle.rules.specs.Sheet.{max_sets}
 use Rattle.sheets.specs.SheetReadings.{head_length, entry_place, record_length}
 

@@ -1,6 +1,5 @@
 -- From which of two sheets the next set is taken: what a decision of that names.
-use Rattle.std.specs.Prelude.{ℕ, ◌<◌, ◌≡◌, ltb, length}
-use Rattle.rules.specs.Lists.{if◌then◌else◌}
+use Rattle.std.specs.Prelude.{ℕ, ◌<◌, ◌≡◌, ltb, length, if◌then◌else◌}
 use Rattle.rules.specs.Sheet.{WriteSet, Sheet}
 use Rattle.sheets.specs.declared.reading.Next.{Next}
 use Rattle.sheets.specs.declared.reading.Next.TheVariants.{First, Second, Both}

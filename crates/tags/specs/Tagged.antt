@@ -1,9 +1,8 @@
 -- The answer of `read_tag`, by what a tag's key is.
-use Rattle.std.specs.Prelude.{ℕ, ◌≡◌, refl, Bool, true, false}
+use Rattle.std.specs.Prelude.{ℕ, ◌≡◌, refl, Bool, true, false, if◌then◌else◌}
 use Rattle.std.proofs.Common.{sym, ◌∙◌, ap}
 use Rattle.std.proofs.Math.Option.{Option, none, some, some-injective, none-ne-some}
 use Rattle.words.specs.Words.{Bytes}
-use Rattle.rules.specs.Lists.{if◌then◌else◌}
 use Rattle.rules.specs.Tag.{is_tag, key_in, key_of_tag}
 use Rattle.tags.specs.declared.reading.Tagged.{Tagged}
 use Rattle.tags.specs.declared.reading.Tagged.TheVariants.{Key, Bad}

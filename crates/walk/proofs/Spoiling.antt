@@ -1,4 +1,5 @@
 -- What two examined sheets are joined to, by the tests that code makes.
+use Rattle.std.specs.Prelude.{if◌then◌else◌}
 use Prim.Native.Nat.{ℕ, ◌<◌, ◌≤◌}
 use mathlib.Core.Path.{◌≡◌, ◌∙◌, ap}
 use mathlib.Core.Bool.{Bool, true, false}
@@ -7,7 +8,7 @@ use native.Mathlib.Omega.{arith}
 use borrow.Author.Tests.{lt-ltb, le-ltb}
 use lib.ListN.{length}
 use Rattle.words.specs.Words.{Bytes}
-use Rattle.rules.specs.Lists.{◌or◌, if◌then◌else◌, any}
+use Rattle.rules.specs.Lists.{◌or◌, any}
 use Rattle.rules.specs.Sheet.{Sheet, max_sets, masters, sheet_in}
 use Rattle.rules.specs.Gathering.{clash, some_two, spoiled_sheet, joined}
 use Rattle.laws.specs.Tests.{or_left, or_right}
