@@ -6,7 +6,7 @@ use rules::{Answer, Checked, Closed};
 
 // A code (0: done, else the refusal's number) and the length written.
 #[repr(C)]
-#[derive(Drop)]
+#[derive(Clone, Copy)]
 pub struct CAnswer {
     pub code: u32,
     pub len: u32,
@@ -14,7 +14,7 @@ pub struct CAnswer {
 
 // The same with the lengths of the next register and of the verdicts.
 #[repr(C)]
-#[derive(Drop)]
+#[derive(Clone, Copy)]
 pub struct CClosed {
     pub code: u32,
     pub register_len: u32,
@@ -23,7 +23,7 @@ pub struct CClosed {
 
 // A refusal's number or 0, then the first failing entry's index, key and reason, all three 0 where there is none.
 #[repr(C)]
-#[derive(Drop)]
+#[derive(Clone, Copy)]
 pub struct CChecked {
     pub code: u32,
     pub index: u32,

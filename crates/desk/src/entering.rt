@@ -9,14 +9,14 @@ use rules::{Entered, OpenSet, Refusal};
 use tags::{Tagged, read_tag};
 
 // What entering answers, and the open set after it.
-#[derive(Drop)]
+#[derive(Clone, Copy)]
 pub struct Entering {
     pub answer: Entered,
     pub after: OpenSet,
 }
 
 // What was typed: the key of a record that may be entered, or a refusal.
-#[derive(Drop)]
+#[derive(Clone, Copy)]
 pub enum Typed {
     Key(u32),
     Refused(Refusal),

@@ -9,7 +9,7 @@ use open_sets::{empty_set, offered_length};
 use rules::{Answer, OpenSet};
 
 // What offering answers, and the open set after it.
-#[derive(Drop)]
+#[derive(Clone, Copy)]
 pub struct Offering {
     pub answer: Answer,
     pub after: OpenSet,

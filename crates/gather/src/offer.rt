@@ -18,7 +18,7 @@ use joining::join_into;
 use rules::{Answer, MAX_NOTICE, Refusal, SHEET_ROOM};
 
 // Whether a sheet takes an offer in.
-#[derive(Drop)]
+#[derive(Clone, Copy)]
 pub enum Admission {
     Granted,
     Refused(Refusal),

@@ -10,7 +10,7 @@ use forms::{
 use rules::{Extent, Refusal, SHEET_ROOM};
 
 // What came of a sheet: its length, the input's end before its first byte, or why it is refused.
-#[derive(Drop)]
+#[derive(Clone, Copy)]
 pub enum Came {
     Sheet(usize),
     Ended,

@@ -11,7 +11,7 @@ use forms::set_count;
 use rules::{Mark, Record};
 
 // The record of the committed set that names the key, and that set's mark.
-#[derive(Drop)]
+#[derive(Clone, Copy)]
 pub enum Effect {
     Write { record: Record, mark: Mark },
     Nothing,

@@ -4,7 +4,7 @@ ghost use Rattle.judging.specs.Answers.{earlier_of};
 
 use rules::Mark;
 
-#[derive(Drop)]
+#[derive(Clone, Copy)]
 pub enum Winner {
     By(Mark),
     Nobody,

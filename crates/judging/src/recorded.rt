@@ -8,7 +8,7 @@ ghost use Rattle.judging.specs.Answers.{recorded};
 use forms::{record, record_count};
 use rules::Record;
 
-#[derive(Drop)]
+#[derive(Clone, Copy)]
 pub enum Recorded {
     As(Record),
     Nowhere,

@@ -10,7 +10,7 @@ use judging::{Effect, applied};
 use rules::{Mark, Record, Row};
 
 // The fate of an old row.
-#[derive(Drop)]
+#[derive(Clone, Copy)]
 pub enum Fate {
     Stays(Row),
     Gone,

@@ -50,7 +50,7 @@ fn put_insert(sheet: &[u8], lost: &[u32], key: u32, next: &mut [u8], d: Draft) -
 }
 
 // What is put next.
-#[derive(Drop)]
+#[derive(Clone, Copy)]
 pub enum Turn {
     Old,
     Insert(u32),

@@ -8,7 +8,7 @@ use crate::find::{Found, find};
 use crate::mode::{READ_COMMITTED, REPEATABLE_READ};
 use rules::{Read, Reason, Row};
 
-#[derive(Drop)]
+#[derive(Clone, Copy)]
 pub enum Entry {
     Stands,
     Fails(Reason),

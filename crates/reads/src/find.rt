@@ -6,7 +6,7 @@ ghost use Rattle.reads.specs.Steps.{row_of, row_with};
 use forms::{row, row_count, row_key};
 use rules::Row;
 
-#[derive(Drop)]
+#[derive(Clone, Copy)]
 pub enum Found {
     There(Row),
     Absent,

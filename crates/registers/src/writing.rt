@@ -9,7 +9,7 @@ use rules::Row;
 use words::{put32, put64};
 
 // A register that is being written: how many rows it is to have, and how many are put.
-#[derive(Drop)]
+#[derive(Clone, Copy)]
 pub struct Draft {
     pub rows: usize,
     pub put: usize,

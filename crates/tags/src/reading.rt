@@ -7,7 +7,7 @@ use crate::table::next_digit;
 use rules::TAG_ROOM;
 
 // The key of a station's tag, or no station's.
-#[derive(Drop)]
+#[derive(Clone, Copy)]
 pub enum Tagged {
     Key(u32),
     Bad,

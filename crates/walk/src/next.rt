@@ -8,7 +8,7 @@ use crate::place::Place;
 use forms::{Next, record_count, set_count, set_csn, set_sen};
 
 // What the contents say of a set: its numbers and how many records it has.
-#[derive(Drop)]
+#[derive(Clone, Copy)]
 pub struct Entry {
     pub csn: u64,
     pub sen: u32,

@@ -9,7 +9,7 @@ use forms::is_spoiled;
 use rules::MAX_SETS;
 
 // What two sheets are joined to: a spoiled sheet, or a sound one of so many sets.
-#[derive(Drop)]
+#[derive(Clone, Copy)]
 pub enum Joint {
     Spoiled,
     Sound(usize),
