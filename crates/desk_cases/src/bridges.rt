@@ -1,4 +1,4 @@
-// By-value bridges to the desk's functions that are lent the open set: whoever calls these needs no walk by hand.
+// By-value bridges to the desk's functions that are lent the open set: what a case prints needs no lent struct.
 ghost use Rattle.std.specs.Prelude.{length};
 ghost use Rattle.rules.specs.Refused.{enter_outcome, offer_outcome};
 ghost use Rattle.rules.specs.Promises.{EnterPromise, OfferPromise};

@@ -22,6 +22,7 @@ fn zero_from(b: &[u8], from: usize) -> bool
 }
 
 // At most eight records, zeros behind them, and in front of these the bytes of a set, unless there is none.
+#[tactic(auto, using(crate::proofs::OpenLaws::too_many_lem))]
 pub fn is_open_set(set: OpenSet) -> bool
     ensures { result ≡ is_open_set set }
 {

@@ -82,7 +82,7 @@ pub fn run_check(head: &[u8], register: &[u8], keys: &[u8], csns: &[u8])
     show_checked(merge::check(register, head[FIRST_NUMBER], lsn, &k[..n], &c[..m]));
 }
 
-// The check over a lent list of entries. Its callers need no walk by hand.
+// The check over a lent list of entries.
 fn listed(register: &[u8], mode: u8, lsn: u32, entries: [Read; 3]) -> Checked
     ensures { CheckPromise (reads_outcome register.now mode lsn entries) result }
 {

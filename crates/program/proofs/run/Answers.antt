@@ -8,7 +8,7 @@ use Rattle.program.proofs.InputCases.{register_held, sheets_held, sheets_refused
 use Rattle.program.proofs.run.Goals as goal
 
 pub returns-in_default : goal.returns-in_default
-returns-in_default c = (refuses 1 register (put_as (ap refused_text c.number.ensures) c.put_refused.ensures.0 {-?-}), omega (arith, c.put_refused.ensures.1 {-?-}))
+returns-in_default c = (refuses 1 register (put_as (ap refused_text c.number.ensures) c.put_refused.ensures.0), omega (arith, c.put_refused.ensures.1))
 
 pub slice_bounds-register-end : goal.slice_bounds-register-end
 slice_bounds-register-end c = (register_held _ c.read_register.ensures c.in-Of.is).within

@@ -29,4 +29,4 @@ returns-in-Wrote c = (
 pub returns-in-Refused : goal.returns-in-Refused
 returns-in-Refused c = let a = c.args in
     let e = refused_text_lem a.register.now a.sheet.now _ _ _ (search rules) (search rules) c.close-answer.ensures c.in-Refused.is in
-    (put_as (ap refused_text c.number.ensures ∙ e) c.put_refused.ensures.0, {-?-} omega (arith, c.put_refused.ensures.1 {-?-}))
+    (put_as (ap refused_text c.number.ensures ∙ e) c.put_refused.ensures.0, omega (arith, c.put_refused.ensures.1))

@@ -6,9 +6,6 @@ use Rattle.tags.specs.declared.reading.Tagged.TheVariants.{Key}
 use Rattle.tags.proofs.ReadingLaws.{refused, accepted, start, light, more, key_is, check_is, finished}
 use Rattle.tags.proofs.reading.read_tag.Goals as goal
 
-below : {k : ℕ} → k ≤ 4294967295 → k < 4294967296
-below h = omega arith
-
 pub returns-then-tag-ne-TAG_ROOM : goal.returns-then-tag-ne-TAG_ROOM
 returns-then-tag-ne-TAG_ROOM c = refused c.args.tag.now (λ r. c.if-tag-ne-TAG_ROOM.true r.long)
 
@@ -83,4 +80,4 @@ returns c = let l = c.loop-i in
     key_is c.args.tag.now l.interim l.key l.i l.invariant c.loop-i-test.false c.if-tag-ne-TAG_ROOM.false)
     ∙ accepted c.args.tag.now
     (finished c.args.tag.now l.interim l.key l.i l.invariant c.loop-i-test.false c.if-tag-ne-TAG_ROOM.false d.0 d.1
-    (sym c.next_digit.ensures ∙ c.if-next_digit-ne0.false) c.if-key-eq0.false (below c.if-key-gt4294967295.false))
+    (sym c.next_digit.ensures ∙ c.if-next_digit-ne0.false) c.if-key-eq0.false (omega arith))

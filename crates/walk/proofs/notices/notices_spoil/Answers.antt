@@ -25,7 +25,7 @@ returns-then-over_at c = found _ c.loop-m.m (omega arith) (or_right _ _ (sym c.o
 
 pub loop-m-preserved : goal.loop-m-preserved
 unfolding notice_spoils ◌or◌
-loop-m-preserved c = (omega arith, below_more _ _ c.loop-m.invariant.1 (rw (sym c.differ_at.ensures ∙ c.if-differ_at.false, {-?-} sym c.over_at.ensures ∙ c.if-over_at.false)))
+loop-m-preserved c = (omega arith, below_more _ _ c.loop-m.invariant.1 (rw (sym c.differ_at.ensures ∙ c.if-differ_at.false, sym c.over_at.ensures ∙ c.if-over_at.false)))
 
 pub returns : goal.returns
 returns c = none_found _ c.loop-m.m (omega arith) c.loop-m.invariant.1
