@@ -1,5 +1,5 @@
 -- It reads the key: after i digits the interim digit and the number that they give.
-use Rattle.std.proofs.Common.{ℕ, ◌≤◌, ◌<◌, sym, ap, ◌∙◌, arith}
+use Rattle.std.proofs.Common.{sym, ap, ◌∙◌, arith}
 use Rattle.laws.specs.Says.{said_no, said_yes, clash}
 use Rattle.laws.specs.TagDetects.{digit_is}
 use Rattle.tags.specs.declared.reading.Tagged.TheVariants.{Key}
