@@ -4,7 +4,7 @@
 mod case;
 
 use case::run_case;
-use std::env;
+use std::env::{Env, FillError};
 use std::fs::File;
 use std::os::fd::AsRawFd;
 
@@ -25,9 +25,35 @@ fn run_file(rt: &HostRuntime, name: &str) {
     }
 }
 
-fn main(rt: HostRuntime) -> std::io::Result<()> {
-    for name in env::args(&rt)?.skip(1) {
-        run_file(&rt, name.as_str());
+// A name that std cannot open, told as one that is not there.
+fn tell_unread(name: &[u8]) {
+    io::write_all(2, name);
+    io::write_all(2, b": not UTF-8\n");
+}
+
+// The file that argument i names. Answers whether there is such an argument; one that is longer than a path may be is taken as empty.
+fn run_argument(rt: &HostRuntime, i: usize) -> bool {
+    let mut name = io::buffer();
+    match rt.arg(i, &mut name) {
+        Ok(n) => {
+            match std::str::from_utf8(&name[..n]) {
+                Ok(text) => run_file(rt, text),
+                Err(_) => tell_unread(&name[..n]),
+            }
+            true
+        }
+        Err(FillError::TooLong) => {
+            run_file(rt, "");
+            true
+        }
+        Err(FillError::NotPresent) => false,
     }
-    Ok(())
+}
+
+fn main(rt: HostRuntime) {
+    for i in 1..usize::MAX {
+        if !run_argument(&rt, i) {
+            break;
+        }
+    }
 }
