@@ -1,13 +1,11 @@
 -- Closing writes no more than a register and 64 verdicts may have, so its lengths fit the C struct; and how its export keeps its promise.
+use Rattle.std.proofs.Common.{Ok, Err}
 use Prim.Native.Nat.{ℕ, ◌≤◌}
 use mathlib.Core.Path.{◌≡◌, refl, sym, ◌∙◌, ap, subst}
 use native.Mathlib.Omega.{arith}
 use lib.ListN.{length}
 use Rattle.words.specs.Words.{Bytes}
-use Rattle.rules.specs.declared.answer.Refusal.{Refusal}
-use Rattle.rules.specs.declared.answer.Closed.{Closed}
-use Rattle.rules.specs.declared.answer.Closed.TheVariants.{Wrote, Refused}
-use Rattle.rules.specs.Answers.{closed_numbers, refusal_number}
+use Rattle.rules.specs.Answers.{ClosedAnswer, closed_numbers}
 use Rattle.rules.specs.Register.{Register, max_rows}
 use Rattle.rules.specs.Sheet.{Sheet, max_sets}
 use Rattle.rules.specs.Becoming.{next_rows, next}
@@ -39,23 +37,12 @@ close_fits register sheet next_room room c p =
 
 -- ---- how the export keeps its promise
 
-pub within_closed : (o : Outcome Closing) (a : Closed) → closed_numbers a ≡ told_closing o → ((c : Closing) → o ≡ done c → Small c) → WithinClosed a
+pub within_closed : (o : Outcome Closing) (a : ClosedAnswer) → closed_numbers a ≡ told_closing o → ((c : Closing) → o ≡ done c → Small c) → WithinClosed a
 unfolding told_closing
-within_closed (refused n) (Wrote k m) p f = let q = ap (λ (x : ℕ × ℕ × ℕ). x.1) p in let r = ap (λ (x : ℕ × ℕ × ℕ). x.2) p in omega arith
-within_closed (done c) (Wrote k m) p f = let q = ap (λ (x : ℕ × ℕ × ℕ). x.1) p in let r = ap (λ (x : ℕ × ℕ × ℕ). x.2) p in omega (arith, f c refl)
-within_closed o (Refused x) p f = tt
+within_closed (refused n) (Ok k) p f = let q = ap (λ (x : ℕ × ℕ × ℕ). x.1) p in let r = ap (λ (x : ℕ × ℕ × ℕ). x.2) p in omega arith
+within_closed (done c) (Ok k) p f = let q = ap (λ (x : ℕ × ℕ × ℕ). x.1) p in let r = ap (λ (x : ℕ × ℕ × ℕ). x.2) p in omega (arith, f c refl)
+within_closed o (Err x) p f = tt
 
-pub kept_close : (o : Outcome Closing) (before-next before-verdicts : Bytes) {a : Closed} {r : CClosed} {after_next after-verdicts : Bytes}
+pub kept_close : (o : Outcome Closing) (before-next before-verdicts : Bytes) {a : ClosedAnswer} {r : CClosed} {after_next after-verdicts : Bytes}
     → ClosePromise o before-next before-verdicts a after_next after-verdicts → ToldClosed a r → KeptClose o before-next before-verdicts r after_next after-verdicts
 kept_close o before-next before-verdicts p t = record { answered = t.numbers ∙ p.answered; next = p.next; verdicts = p.verdicts }
-
--- ---- an answer's cases
-
-pub wrote_within : {a : Closed} {n m : ℕ} → WithinClosed a → a ≡ Wrote n m → (n ≤ register_room) × (m ≤ verdict_room)
-wrote_within w p = rw p at w
-
-pub wrote_told : {a : Closed} {n m : ℕ} → a ≡ Wrote n m → ToldClosed a (record { code = 0; register_len = n; verdicts_len = m })
-wrote_told p = record { numbers = sym (ap closed_numbers p) }
-
-pub refused_told : {a : Closed} {x : Refusal} {n : ℕ} → a ≡ Refused x → n ≡ refusal_number x → ToldClosed a (record { code = n; register_len = 0; verdicts_len = 0 })
-refused_told p q = record { numbers = ap (λ (k : ℕ). (k, 0, 0)) q ∙ sym (ap closed_numbers p) }

@@ -8,9 +8,7 @@ use lib.ListN.{length}
 use lib.Dec.{ltb}
 use Rattle.words.specs.Words.{Bytes}
 use Rattle.rules.specs.declared.desk.OpenSet.{OpenSet}
-use Rattle.rules.specs.declared.desk.Entered.{Entered}
-use Rattle.rules.specs.declared.answer.Answer.{Answer}
-use Rattle.rules.specs.Answers.{entered_number}
+use Rattle.rules.specs.Answers.{Answer, Entered, entered_number}
 use Rattle.rules.specs.Tag.{tag_room, is_key, tag_of}
 use Rattle.rules.specs.OpenSet.{offered_bytes}
 use Rattle.rules.specs.Refused.{Outcome, refused, done, sheet_room, offer_outcome, tag_outcome}

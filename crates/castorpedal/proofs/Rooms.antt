@@ -1,17 +1,14 @@
 -- No outcome of gathering is longer than a sheet may be, so every length fits the C struct; and how an export keeps its promise.
+use Rattle.std.proofs.Common.{Option, None, Some, Ok, Err}
 use Prim.Native.Nat.{ℕ, ◌^◌, ◌<◌, ◌≤◌}
 use mathlib.Core.Path.{◌≡◌, refl, sym, ◌∙◌, ap}
 use mathlib.Core.Bool.{true}
 use mathlib.Core.List.{[], ◌∷◌}
-use mathlib.Core.Option.{Option, none, some}
 use native.Mathlib.Omega.{arith}
 use lib.ListN.{length}
 use lib.Dec.{leb}
 use Rattle.words.specs.Words.{Bytes}
-use Rattle.rules.specs.declared.answer.Refusal.{Refusal}
-use Rattle.rules.specs.declared.answer.Answer.{Answer}
-use Rattle.rules.specs.declared.answer.Answer.TheVariants.{Wrote, Refused}
-use Rattle.rules.specs.Answers.{answer_numbers, refusal_number}
+use Rattle.rules.specs.Answers.{Answer, answer_numbers}
 use Rattle.rules.specs.Numbers.{master_of}
 use Rattle.rules.specs.Sheet.{Sheet, in_roster, sound_set, sound_sheet, sheet_bytes, read_sheet}
 use Rattle.rules.specs.Gathering.{Offer, holding, with_offer, sound_of}
@@ -56,13 +53,13 @@ open_fits e r room h k b p =
     omega (arith, ap length q.2, empty_length e r)
 
 -- an offer to a sheet, fair if it is taken
-offer_fits : (sheet : Bytes) (o : Option Offer) (e m room : ℕ) → ((s : Sheet) (x : Offer) → o ≡ some x → e ≡ s.epoch → in_roster s.roster m ≡ true → FairOffer s.epoch s.roster x)
+offer_fits : (sheet : Bytes) (o : Option Offer) (e m room : ℕ) → ((s : Sheet) (x : Offer) → o ≡ Some x → e ≡ s.epoch → in_roster s.roster m ≡ true → FairOffer s.epoch s.roster x)
     → Fits (offer_to (read_sheet sheet) o e m room)
 offer_fits sheet o e m room f b p = go (read_sheet sheet) refl p
   where
     go : (r : Option Sheet) → read_sheet sheet ≡ r → offer_to r o e m room ≡ done b → length b ≤ sheet_room
-    go none q h = absurd (unfold offer_to in refused_not h)
-    go (some s) q h =
+    go None q h = absurd (unfold offer_to in refused_not h)
+    go (Some s) q h =
         let x = offer→ s o e m room b h in
         let w = with_sound s x.0 (written_read sheet s q).1 (f s x.0 x.1 x.2 x.3) in
         omega (arith, ap length x.4, sheet_room_lem (with_offer s x.0) w)
@@ -90,20 +87,9 @@ join_fits a b room c p =
 
 pub within : (o : Outcome Bytes) (a : Answer) → answer_numbers a ≡ told o → Fits o → Within sheet_room a
 unfolding told
-within (refused n) (Wrote k) p f = let q = ap (λ (x : ℕ × ℕ). x.1) p in omega arith
-within (done b) (Wrote k) p f = let q = ap (λ (x : ℕ × ℕ). x.1) p in omega (arith, f b refl)
-within o (Refused x) p f = tt
+within (refused n) (Ok k) p f = let q = ap (λ (x : ℕ × ℕ). x.1) p in omega arith
+within (done b) (Ok k) p f = let q = ap (λ (x : ℕ × ℕ). x.1) p in omega (arith, f b refl)
+within o (Err x) p f = tt
 
 pub kept : (o : Outcome Bytes) (before : Bytes) {a : Answer} {r : CAnswer} {after : Bytes} → Promise o before a after → Told a r → Kept o before r after
 kept o before p t = record { answered = t.numbers ∙ p.answered; buffer = p.buffer }
-
--- ---- an answer's cases
-
-pub wrote_within : {a : Answer} {n : ℕ} → Within sheet_room a → a ≡ Wrote n → n ≤ sheet_room
-wrote_within w p = rw p at w
-
-pub wrote_told : {a : Answer} {n : ℕ} → a ≡ Wrote n → Told a (record { code = 0; len = n })
-wrote_told p = record { numbers = sym (ap answer_numbers p) }
-
-pub refused_told : {a : Answer} {x : Refusal} {n : ℕ} → a ≡ Refused x → n ≡ refusal_number x → Told a (record { code = n; len = 0 })
-refused_told p q = record { numbers = ap (λ (k : ℕ). (k, 0)) q ∙ sym (ap answer_numbers p) }

@@ -1,17 +1,9 @@
 -- An exported promise is the operation's own, its answer told in numbers: so what `merge` `Demands` says of calls holds of exported ones.
-use Rattle.std.specs.Prelude.{ℕ, ◌≡◌, refl, length}
+use Rattle.std.specs.Prelude.{ℕ, ◌≡◌, refl, length, None, Ok, Err}
 use Rattle.std.proofs.Common.{sym, subst, ◌∙◌, ap}
 use Rattle.words.specs.Words.{Bytes}
 use Rattle.rules.specs.declared.desk.OpenSet.{OpenSet}
-use Rattle.rules.specs.declared.desk.Entered.{Entered}
-use Rattle.rules.specs.declared.desk.Entered.TheVariants as entered
-use Rattle.rules.specs.declared.answer.Answer.{Answer}
-use Rattle.rules.specs.declared.answer.Answer.TheVariants as answer
-use Rattle.rules.specs.declared.answer.Closed.{Closed}
-use Rattle.rules.specs.declared.answer.Closed.TheVariants as closed
-use Rattle.rules.specs.declared.answer.Checked.{Checked}
-use Rattle.rules.specs.declared.answer.Checked.TheVariants as checked
-use Rattle.rules.specs.Answers.{entered_number}
+use Rattle.rules.specs.Answers.{Answer, ClosedAnswer, Checked, Entered, lengths, fails_with, entered_number}
 use Rattle.rules.specs.ReadCheck.{Finding, passes, fails}
 use Rattle.rules.specs.Refused.{Outcome, refused, done, Closing}
 use Rattle.rules.specs.Promises.{told, left, Promise, told_closing, left_register, left_verdicts, ClosePromise, told_finding, CheckPromise, told_entering, left_entering, EnterPromise, OfferPromise}
@@ -31,35 +23,35 @@ as_promised q o result h before after r k = go o refl k
     go (refused n) e k =
         let w = h.only_when n e in
         let c = ap {B = ℕ × ℕ} (λ (m : ℕ). (m, 0)) w.1 in (
-          answer.Refused w.0,
-          subst (λ (p : Outcome Bytes). Promise p before (answer.Refused w.0) after) (sym e) (record { answered = sym c; buffer = k.buffer }),
+          Err w.0,
+          subst (λ (p : Outcome Bytes). Promise p before (Err w.0) after) (sym e) (record { answered = sym c; buffer = k.buffer }),
           record { numbers = k.answered ∙ c },
         )
     go (done b) e k = (
-      answer.Wrote (length b),
-      subst (λ (p : Outcome Bytes). Promise p before (answer.Wrote (length b)) after) (sym e) (record { answered = refl; buffer = k.buffer }),
+      Ok (length b),
+      subst (λ (p : Outcome Bytes). Promise p before (Ok (length b)) after) (sym e) (record { answered = refl; buffer = k.buffer }),
       record { numbers = k.answered },
     )
 
 -- OF CLOSING
 pub as_promised_closing : (q : Asked) (o : Outcome Closing) (result : Closing) → RefusedExactly q o result
     → (next verdicts next' verdicts' : Bytes) (r : CClosed) → KeptClose o next verdicts r next' verdicts'
-    → (a : Closed) × ClosePromise o next verdicts a next' verdicts' × ToldClosed a r
+    → (a : ClosedAnswer) × ClosePromise o next verdicts a next' verdicts' × ToldClosed a r
 unfolding told_closing left_register left_verdicts
 as_promised_closing q o result h next verdicts next' verdicts' r k = go o refl k
   where
-    go : (p : Outcome Closing) → o ≡ p → KeptClose p next verdicts r next' verdicts' → (a : Closed) × ClosePromise o next verdicts a next' verdicts' × ToldClosed a r
+    go : (p : Outcome Closing) → o ≡ p → KeptClose p next verdicts r next' verdicts' → (a : ClosedAnswer) × ClosePromise o next verdicts a next' verdicts' × ToldClosed a r
     go (refused n) e k =
         let w = h.only_when n e in
         let c = ap {B = ℕ × ℕ × ℕ} (λ (m : ℕ). (m, 0, 0)) w.1 in (
-          closed.Refused w.0,
-          subst (λ (p : Outcome Closing). ClosePromise p next verdicts (closed.Refused w.0) next' verdicts') (sym e)
+          Err w.0,
+          subst (λ (p : Outcome Closing). ClosePromise p next verdicts (Err w.0) next' verdicts') (sym e)
               (record { answered = sym c; next = k.next; verdicts = k.verdicts }),
           record { numbers = k.answered ∙ c },
         )
     go (done b) e k = (
-      closed.Wrote (length b.register) (length b.verdicts),
-      subst (λ (p : Outcome Closing). ClosePromise p next verdicts (closed.Wrote (length b.register) (length b.verdicts)) next' verdicts') (sym e)
+      lengths (length b.register) (length b.verdicts),
+      subst (λ (p : Outcome Closing). ClosePromise p next verdicts (lengths (length b.register) (length b.verdicts)) next' verdicts') (sym e)
           (record { answered = refl; next = k.next; verdicts = k.verdicts }),
       record { numbers = k.answered },
     )
@@ -74,14 +66,14 @@ as_promised_check q o result h r k = go o refl k
     go (refused n) e k =
         let w = h.only_when n e in
         let c = ap {B = ℕ × ℕ × ℕ × ℕ} (λ (m : ℕ). (m, 0, 0, 0)) w.1 in (
-          checked.Refused w.0,
-          subst (λ (p : Outcome Finding). CheckPromise p (checked.Refused w.0)) (sym e) (record { answered = sym c }),
+          Err w.0,
+          subst (λ (p : Outcome Finding). CheckPromise p (Err w.0)) (sym e) (record { answered = sym c }),
           record { numbers = k.answered ∙ c },
         )
-    go (done passes) e k = (checked.Pass, subst (λ (p : Outcome Finding). CheckPromise p checked.Pass) (sym e) (record { answered = refl }), record { numbers = k.answered })
+    go (done passes) e k = (Ok None, subst (λ (p : Outcome Finding). CheckPromise p (Ok None)) (sym e) (record { answered = refl }), record { numbers = k.answered })
     go (done (fails i j x)) e k = (
-      checked.Fails i j x,
-      subst (λ (p : Outcome Finding). CheckPromise p (checked.Fails i j x)) (sym e) (record { answered = refl }),
+      fails_with i j x,
+      subst (λ (p : Outcome Finding). CheckPromise p (fails_with i j x)) (sym e) (record { answered = refl }),
       record { numbers = k.answered },
     )
 
@@ -94,13 +86,13 @@ as_promised_entering q o result h before after r k = go o refl k
     go : (p : Outcome OpenSet) → o ≡ p → KeptEnter p before r after → (a : Entered) × EnterPromise o before a after × (r ≡ entered_number a)
     go (refused n) e k =
         let w = h.only_when n e in (
-          entered.Refused w.0,
-          subst (λ (p : Outcome OpenSet). EnterPromise p before (entered.Refused w.0) after) (sym e) (record { answered = sym w.1; open_set = k.open_set }),
+          Err w.0,
+          subst (λ (p : Outcome OpenSet). EnterPromise p before (Err w.0) after) (sym e) (record { answered = sym w.1; open_set = k.open_set }),
           k.answered ∙ w.1,
         )
     go (done b) e k = (
-      entered.Added,
-      subst (λ (p : Outcome OpenSet). EnterPromise p before entered.Added after) (sym e) (record { answered = refl; open_set = k.open_set }),
+      Ok tt,
+      subst (λ (p : Outcome OpenSet). EnterPromise p before (Ok tt) after) (sym e) (record { answered = refl; open_set = k.open_set }),
       k.answered,
     )
 

@@ -1,14 +1,9 @@
 -- The promises of the exported operations: those of `rules`, with the answer as numbers in a C struct.
-use Rattle.std.specs.Prelude.{ℕ, ◌≤◌, ◌≡◌}
+use Rattle.std.specs.Prelude.{ℕ, ◌≤◌, ◌≡◌, Ok, Err}
 use Rattle.words.specs.Words.{Bytes}
 use Rattle.rules.specs.declared.desk.OpenSet.{OpenSet}
-use Rattle.rules.specs.declared.answer.Answer.{Answer}
-use Rattle.rules.specs.declared.answer.Answer.TheVariants as answer
-use Rattle.rules.specs.declared.answer.Closed.{Closed}
-use Rattle.rules.specs.declared.answer.Closed.TheVariants as closed
-use Rattle.rules.specs.declared.answer.Checked.{Checked}
 use Rattle.rules.specs.ReadCheck.{Finding}
-use Rattle.rules.specs.Answers.{answer_numbers, closed_numbers, checked_numbers}
+use Rattle.rules.specs.Answers.{Answer, ClosedAnswer, Checked, answer_numbers, closed_numbers, checked_numbers}
 use Rattle.rules.specs.Refused.{Outcome, Closing, register_room, verdict_room}
 use Rattle.rules.specs.Promises.{told, left, told_closing, left_register, left_verdicts, told_finding, told_entering, left_entering, left_offering}
 use Rattle.castorpedal.specs.declared.answer.CAnswer.{CAnswer}
@@ -17,20 +12,20 @@ use Rattle.castorpedal.specs.declared.answer.CChecked.{CChecked}
 
 -- the length of an answer is at most n
 abbrev pub Within : ℕ → Answer → Type 0
-Within n (answer.Wrote k) = k ≤ n
-Within n (answer.Refused x) = Unit {0}
+Within n (Ok k) = k ≤ n
+Within n (Err x) = Unit {0}
 
 -- the lengths of closing's answer are at most those of a register and of 64 verdicts
-abbrev pub WithinClosed : Closed → Type 0
-WithinClosed (closed.Wrote n m) = (n ≤ register_room) × (m ≤ verdict_room)
-WithinClosed (closed.Refused x) = Unit {0}
+abbrev pub WithinClosed : ClosedAnswer → Type 0
+WithinClosed (Ok c) = (c.register ≤ register_room) × (c.verdicts ≤ verdict_room)
+WithinClosed (Err x) = Unit {0}
 
 -- an answer's numbers
 pub record Told (a : Answer) (r : CAnswer) : Type 0 where
   pub numbers : (r.code, r.len) ≡ answer_numbers a
 
 -- the same of closing's answer
-pub record ToldClosed (a : Closed) (r : CClosed) : Type 0 where
+pub record ToldClosed (a : ClosedAnswer) (r : CClosed) : Type 0 where
   pub numbers : (r.code, r.register_len, r.verdicts_len) ≡ closed_numbers a
 
 -- and of the read check's

@@ -2,7 +2,7 @@
 ghost use Rattle.rules.specs.Refused.{sheet_room};
 ghost use Rattle.castorpedal.specs.Exported.{Told, Within, ToldClosed, WithinClosed, ToldChecked};
 
-use rules::{Answer, Checked, Closed};
+use rules::{Closed, Failure, Refusal};
 
 // A code (0: done, else the refusal's number) and the length written.
 #[repr(C)]
@@ -31,34 +31,36 @@ pub struct CChecked {
     pub reason: u32,
 }
 
-pub fn answer(a: Answer) -> CAnswer
+// No From: a length must fit, which is required.
+pub fn answer(a: Result<usize, Refusal>) -> CAnswer
     requires { Within sheet_room a }
     ensures { Told a result }
 {
     match a {
-        Answer::Wrote(n) => CAnswer {
+        Ok(n) => CAnswer {
             code: 0,
             len: n as u32,
         },
-        Answer::Refused(x) => CAnswer {
-            code: x.number(),
+        Err(x) => CAnswer {
+            code: u32::from(x),
             len: 0,
         },
     }
 }
 
-pub fn closed(a: Closed) -> CClosed
+// No From either, for the same reason.
+pub fn closed(a: Result<Closed, Refusal>) -> CClosed
     requires { WithinClosed a }
     ensures { ToldClosed a result }
 {
     match a {
-        Closed::Wrote { register, verdicts } => CClosed {
+        Ok(Closed { register, verdicts }) => CClosed {
             code: 0,
             register_len: register as u32,
             verdicts_len: verdicts as u32,
         },
-        Closed::Refused(x) => CClosed {
-            code: x.number(),
+        Err(x) => CClosed {
+            code: u32::from(x),
             register_len: 0,
             verdicts_len: 0,
         },
@@ -68,27 +70,29 @@ pub fn closed(a: Closed) -> CClosed
 // The index at a pass or a refusal, where no entry failed.
 const NO_INDEX: u32 = 0;
 
-pub fn checked(a: Checked) -> CChecked
-    ensures { ToldChecked a result }
-{
-    match a {
-        Checked::Pass => CChecked {
-            code: 0,
-            index: NO_INDEX,
-            key: 0,
-            reason: 0,
-        },
-        Checked::Fails { index, key, reason } => CChecked {
-            code: 0,
-            index,
-            key,
-            reason: reason.number(),
-        },
-        Checked::Refused(x) => CChecked {
-            code: x.number(),
-            index: NO_INDEX,
-            key: 0,
-            reason: 0,
-        },
+impl From<Result<Option<Failure>, Refusal>> for CChecked {
+    ghost from_gives = { ToldChecked };
+
+    fn from(a: Result<Option<Failure>, Refusal>) -> CChecked {
+        match a {
+            Ok(None) => CChecked {
+                code: 0,
+                index: NO_INDEX,
+                key: 0,
+                reason: 0,
+            },
+            Ok(Some(Failure { index, key, reason })) => CChecked {
+                code: 0,
+                index,
+                key,
+                reason: u32::from(reason),
+            },
+            Err(x) => CChecked {
+                code: u32::from(x),
+                index: NO_INDEX,
+                key: 0,
+                reason: 0,
+            },
+        }
     }
 }

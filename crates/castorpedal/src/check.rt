@@ -2,7 +2,7 @@
 ghost use Rattle.rules.specs.Refused.{reads_outcome, check_outcome};
 ghost use Rattle.castorpedal.specs.Exported.{KeptCheck};
 
-use crate::answer::{CChecked, checked};
+use crate::answer::CChecked;
 use rules::Read;
 
 #[unsafe(no_mangle)]
@@ -15,7 +15,7 @@ pub extern "C" fn castorpedal_check(
 ) -> CChecked
     ensures { KeptCheck (check_outcome register.now mode lsn keys.now csns.now) result }
 {
-    checked(merge::check(register, mode, lsn, keys, csns))
+    CChecked::from(merge::check(register, mode, lsn, keys, csns))
 }
 
 #[unsafe(no_mangle)]
@@ -27,5 +27,5 @@ pub extern "C" fn castorpedal_check_reads(
 ) -> CChecked
     ensures { KeptCheck (reads_outcome register.now mode lsn reads.now) result }
 {
-    checked(merge::check_reads(register, mode, lsn, reads))
+    CChecked::from(merge::check_reads(register, mode, lsn, reads))
 }

@@ -10,7 +10,10 @@ use rules::OpenSet;
 pub extern "C" fn castorpedal_desk_enter(set: &mut OpenSet, kind: u8, tag: &[u8], value: u64) -> u32
     ensures { KeptEnter (enter_outcome set.old kind tag.now value) set.old result set.new }
 {
-    merge::enter(set, kind, tag, value).number()
+    match merge::enter(set, kind, tag, value) {
+        Ok(()) => 0,
+        Err(x) => u32::from(x),
+    }
 }
 
 #[unsafe(no_mangle)]

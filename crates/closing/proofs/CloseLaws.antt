@@ -3,15 +3,14 @@ use Prim.Native.Nat.{ℕ, ◌+◌, ◌≤◌, ◌<◌}
 use mathlib.Core.Path.{◌≡◌, sym, ◌∙◌, ap}
 use mathlib.Core.Bool.{true, false}
 use mathlib.Core.List.{List, []}
-use mathlib.Core.Option.{some}
+use Rattle.std.specs.Prelude.{Some}
 use native.Mathlib.Omega.{arith}
 use borrow.Author.Tests.{lt-ltb, le-ltb}
 use lib.ListN.{length}
 use lib.Dec.{eqb}
 use Rattle.words.specs.Words.{Bytes}
 use Rattle.rules.specs.declared.row.Row.{Row}
-use Rattle.rules.specs.declared.answer.Closed.{Closed}
-use Rattle.rules.specs.declared.answer.Closed.TheVariants as closed
+use Rattle.rules.specs.Answers.{ClosedAnswer, lengths}
 use Rattle.rules.specs.Lists.{◌or◌, flat}
 use Rattle.rules.specs.Register.{Register, max_rows, is_register, register_in}
 use Rattle.rules.specs.Sheet.{Sheet, is_sheet, sheet_in}
@@ -24,12 +23,12 @@ use Rattle.laws.specs.SheetLaws.{sheet_read, sheet_unread}
 use Rattle.laws.specs.VerdictLength.{verdicts_long}
 use Rattle.forms.specs.VerdictForm.{verdicts_length}
 use Rattle.registers.specs.declared.writing.Draft.{Draft}
-use Rattle.registers.specs.RegisterWriting.{register_length, RowsPut, RowsFit, RowsAdded}
+use Rattle.registers.specs.RegisterWriting.{register_length, RowsPut, RowsAdded}
 use Rattle.registers.specs.RegisterWritten.{length_fits, register_long, finished}
 use Rattle.closing.specs.Outcome.{close_complete, NextStands}
 
 -- the same of an equal outcome
-pub alike : {o p : Outcome Closing} {a b : Bytes} {r : Closed} {a' b' : Bytes} → o ≡ p → ClosePromise p a b r a' b' → ClosePromise o a b r a' b'
+pub alike : {o p : Outcome Closing} {a b : Bytes} {r : ClosedAnswer} {a' b' : Bytes} → o ≡ p → ClosePromise p a b r a' b' → ClosePromise o a b r a' b'
 alike e h = rw e h
 
 -- ---- bad form comes first
@@ -43,26 +42,26 @@ module _ (r t : Bytes) (n m : ℕ) where
   unfolding close_outcome close_sheet
   close_2 h k = simp (register_read r h, sheet_unread t k)
 
-  pub close_on : is_register r ≡ true → is_sheet t ≡ true → close_outcome r t n m ≡ close_sheet (some (register_in r)) (some (sheet_in t)) n m
+  pub close_on : is_register r ≡ true → is_sheet t ≡ true → close_outcome r t n m ≡ close_sheet (Some (register_in r)) (Some (sheet_in t)) n m
   unfolding close_outcome
   close_on h k = simp (register_read r h, sheet_read t k)
 
 -- ---- then epoch, state and completeness
 
 module _ (g : Register) (s : Sheet) (n m : ℕ) where
-  pub sheet_4 : eqb s.epoch (g.snapshot + 1) ≡ false → close_sheet (some g) (some s) n m ≡ refused 4
+  pub sheet_4 : eqb s.epoch (g.snapshot + 1) ≡ false → close_sheet (Some g) (Some s) n m ≡ refused 4
   unfolding close_sheet
   sheet_4 e = simp e
 
-  pub sheet_6 : eqb s.epoch (g.snapshot + 1) ≡ true → s.spoiled ≡ true → close_sheet (some g) (some s) n m ≡ refused 6
+  pub sheet_6 : eqb s.epoch (g.snapshot + 1) ≡ true → s.spoiled ≡ true → close_sheet (Some g) (Some s) n m ≡ refused 6
   unfolding close_sheet
   sheet_6 e p = simp (e, p)
 
-  pub sheet_7 : eqb s.epoch (g.snapshot + 1) ≡ true → s.spoiled ≡ false → complete s ≡ false → close_sheet (some g) (some s) n m ≡ refused 7
+  pub sheet_7 : eqb s.epoch (g.snapshot + 1) ≡ true → s.spoiled ≡ false → complete s ≡ false → close_sheet (Some g) (Some s) n m ≡ refused 7
   unfolding close_sheet
   sheet_7 e p c = simp (e, p, c)
 
-  pub sheet_on : eqb s.epoch (g.snapshot + 1) ≡ true → s.spoiled ≡ false → complete s ≡ true → close_sheet (some g) (some s) n m ≡ close_complete g s n m
+  pub sheet_on : eqb s.epoch (g.snapshot + 1) ≡ true → s.spoiled ≡ false → complete s ≡ true → close_sheet (Some g) (Some s) n m ≡ close_complete g s n m
   unfolding close_sheet close_complete
   sheet_on e p c = simp (e, p, c)
 
@@ -87,34 +86,27 @@ module _ (g : Register) (s : Sheet) (n m : ℕ) where
 
 -- ---- what is written
 
-module _ (rows : List Row) (few : length rows ≤ max_rows) where
-  -- the draft that was begun has room for the next rows
-  pub next_fits : {before mid : Bytes} {d : Draft} (snap : ℕ) → register_room ≤ length before → d.rows ≡ length rows → RowsPut snap [] before d mid
-      → RowsFit d (length rows) mid
-  next_fits {d = d} snap room n p =
-      record {
-        few = rw n few;
-        room = rw (n, p.long) (omega (arith, length_fits (length rows) few));
-        left = omega (arith, n, p.put);
-      }
+-- the draft that was begun has the next rows left to put
+pub next_fits : (rows : List Row) {before : Bytes} {d : Draft} {snap : ℕ} → d.rows ≡ length rows → RowsPut snap [] before d → d.put + length rows ≤ d.rows
+next_fits rows n p = omega (arith, n, p.put)
 
-  -- once its rows are put the next register stands, and it is as long as its draft says
-  pub next_stands : (snapshot : ℕ) {before mid after : Bytes} {d e : Draft} (snap : ℕ) → snap ≡ snapshot → register_room ≤ length before → d.rows ≡ length rows
-      → RowsPut snap [] before d mid → RowsAdded rows d mid e after → {r : ℕ} → r ≡ register_length e.rows
-      → NextStands (record { snapshot = snapshot; rows = rows }) before r after
-  next_stands snapshot {before} {e = e} snap epoch room n p q {r} long =
-      let g : Register = record { snapshot = snapshot; rows = rows } in
-      let many : e.rows ≡ length rows = q.same ∙ n in
-      let wide : register_length e.rows ≤ length before = rw many (omega (arith, length_fits (length rows) few)) in
-      record {
-        bytes = finished g many wide (rw epoch at (q.behind snap [] before p));
-        long = long ∙ ap register_length many ∙ sym (register_long g);
-      }
+-- once its rows are put the next register stands, and it is as long as its draft says
+pub next_stands : (snapshot : ℕ) (rows : List Row) → length rows ≤ max_rows → {before after : Bytes} {d e : Draft} {snap : ℕ} → snap ≡ snapshot
+    → register_room ≤ length before → d.rows ≡ length rows → RowsPut snap [] before d → RowsAdded rows d e → after ≡ e.out.now → {r : ℕ} → r ≡ register_length e.rows
+    → NextStands (record { snapshot = snapshot; rows = rows }) before r after
+next_stands snapshot rows few {before} {e = e} epoch room n p q left long =
+    let g : Register = record { snapshot = snapshot; rows = rows } in
+    let many : e.rows ≡ length rows = q.same ∙ n in
+    let wide : register_length e.rows ≤ length before = rw many (omega (arith, length_fits (length rows) few)) in
+    record {
+      bytes = left ∙ finished g many wide (rw epoch at (q.behind _ [] before p));
+      long = long ∙ ap register_length many ∙ sym (register_long g);
+    }
 
 -- the rows that are written are the next rows
 pub closes : (g : Register) (s : Sheet) {rows : List Row} → rows ≡ next_rows g s → length rows ≤ max_rows → (a b : Bytes) {a' b' : Bytes} (n m : ℕ)
     → register_room ≤ length a → verdict_room ≤ length b → NextStands (record { snapshot = g.snapshot + 1; rows = rows }) a n a' → m ≡ verdicts_length (length s.sets)
-    → b' ≡ over b (flat verdict_bytes (verdicts g s)) → ClosePromise (close_complete g s (length a) (length b)) a b (closed.Wrote n m) a' b'
+    → b' ≡ over b (flat verdict_bytes (verdicts g s)) → ClosePromise (close_complete g s (length a) (length b)) a b (lengths n m) a' b'
 unfolding told_closing left_register left_verdicts closing next
 closes g s e few a b {a'} n m h k stands f q =
     let p : NextStands (next g s) a n a' = rw e at stands in

@@ -2,7 +2,7 @@
 use Prim.Native.Nat.{ℕ, zero, suc, ◌+◌, ◌≤◌, ◌<◌}
 use mathlib.Core.Path.{◌≡◌, refl, sym, ap}
 use mathlib.Core.List.{List, [], ◌∷◌, ◌++◌, map}
-use mathlib.Core.Option.{Option, none, some}
+use Rattle.std.specs.Prelude.{Option, None, Some}
 use native.Mathlib.Numerals.{add-one}
 use native.Mathlib.Omega.{arith}
 use lib.ListN.{length, get_or, take, length-map}
@@ -10,7 +10,6 @@ use lib.Seq.{take_all, length-take-le}
 use Rattle.words.specs.Words.{Bytes}
 use Rattle.rules.specs.declared.row.Record.{Record}
 use Rattle.rules.specs.declared.answer.Verdict.{Verdict}
-use Rattle.rules.specs.declared.answer.Verdict.TheVariants.{Commit, Lost, Unfit}
 use Rattle.rules.specs.Lists.{flat}
 use Rattle.rules.specs.Register.{Register}
 use Rattle.rules.specs.Sheet.{WriteSet, Sheet, max_sets}
@@ -19,34 +18,17 @@ use Rattle.rules.specs.Refused.{verdict_room, verdict_bytes}
 use Rattle.rules.specs.Promises.{over}
 use Rattle.sheets.specs.SheetReadings.{set_at, no_set}
 use Rattle.forms.specs.VerdictWriting.{VerdictsPut, VerdictAdded, none_put, verdicts_stand}
-use Rattle.judging.specs.declared.key.FirstKey.{FirstKey}
-use Rattle.judging.specs.declared.key.FirstKey.TheVariants.{Key, None}
-use Rattle.judging.specs.Answers.{first_key}
-use Rattle.judging.specs.Tables.{wrong_key, lost_key}
+use Rattle.judging.specs.Tables.{first_key, wrong_key, lost_key}
 use Rattle.closing.specs.Outcome.{verdict_by}
-
--- by which of the two keys there is
-module _ (wrong lost : FirstKey) where
-  pub by_wrong : {k : ℕ} → wrong ≡ Key k → Unfit k ≡ verdict_by wrong lost
-  unfolding verdict_by
-  by_wrong p = rw p refl
-
-  pub by_lost : {k : ℕ} → wrong ≡ None → lost ≡ Key k → Lost k ≡ verdict_by wrong lost
-  unfolding verdict_by
-  by_lost p q = rw (p, q) refl
-
-  pub by_none : wrong ≡ None → lost ≡ None → Commit ≡ verdict_by wrong lost
-  unfolding verdict_by
-  by_none p q = rw (p, q) refl
 
 pub verdict_by_lem : (g : Register) (s : Sheet) (w : WriteSet) → verdict_by (wrong_key g w) (lost_key g s w) ≡ verdict g s w
 unfolding verdict wrong_key lost_key
 verdict_by_lem g s w = go (first_wrong g w) (first_lost g s w)
   where
     go : (a b : Option Record) → verdict_by (first_key a) (first_key b) ≡ judged a b
-    go (some r) b = unfold verdict_by first_key judged in refl
-    go none (some r) = unfold verdict_by first_key judged in refl
-    go none none = unfold verdict_by first_key judged in refl
+    go (Some r) b = unfold judged in refl
+    go None (Some r) = unfold judged in refl
+    go None None = unfold judged in refl
 
 take_map_more : {A B : Type 0} (f : A → B) (d : A) (xs : List A) (i : ℕ) → i < length xs → take (suc i) (map f xs) ≡ take i (map f xs) ++ (f (get_or xs i d) ∷ [])
 take_map_more f d [] i h = absurd (omega arith)

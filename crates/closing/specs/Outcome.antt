@@ -1,5 +1,5 @@
 -- What is left of the closing's outcome where the sheet is complete, the verdict that the tables tell of a set, and what writing the next register leaves.
-use Rattle.std.specs.Prelude.{ℕ, ◌≡◌, length, ltb, if◌then◌else◌}
+use Rattle.std.specs.Prelude.{ℕ, ◌≡◌, length, ltb, if◌then◌else◌, Option, None, Some}
 use Rattle.words.specs.Words.{Bytes}
 use Rattle.rules.specs.declared.answer.Verdict.{Verdict}
 use Rattle.rules.specs.declared.answer.Verdict.TheVariants.{Commit, Lost, Unfit}
@@ -9,13 +9,11 @@ use Rattle.rules.specs.Sheet.{Sheet}
 use Rattle.rules.specs.Becoming.{next_rows}
 use Rattle.rules.specs.Refused.{Outcome, refused, done, Closing, closing, register_room, verdict_room}
 use Rattle.rules.specs.Promises.{over}
-use Rattle.judging.specs.declared.key.FirstKey.{FirstKey}
-use Rattle.judging.specs.declared.key.FirstKey.TheVariants.{Key, None}
 
 -- the verdict on a set whose first key found wrong and first key lost are these
-unfoldable pub verdict_by : FirstKey → FirstKey → Verdict
-verdict_by (Key k) lost = Unfit k
-verdict_by None (Key k) = Lost k
+abbrev pub verdict_by : Option ℕ → Option ℕ → Verdict
+verdict_by (Some k) lost = Unfit k
+verdict_by None (Some k) = Lost k
 verdict_by None None = Commit
 
 -- the closing of a complete sheet of the right epoch: what is left of the chain of refusals

@@ -1,62 +1,28 @@
-// Entering a record, by value.
+// A record entered into the open set where it stands, in key order.
 ghost use Rattle.rules.specs.Refused.{enter_outcome};
 ghost use Rattle.rules.specs.Promises.{EnterPromise};
-ghost use Rattle.desk.specs.Entries.{Allows};
 
 use examine::kind_and_value_ok;
 use open_sets::{has_key, is_full, is_open_set, with_record};
-use rules::{Entered, OpenSet, Refusal};
-use tags::{Tagged, read_tag};
+use rules::{OpenSet, Record, Refusal};
+use tags::read_tag;
 
-// What entering answers, and the open set after it.
-#[derive(Clone, Copy)]
-pub struct Entering {
-    pub answer: Entered,
-    pub after: OpenSet,
-}
-
-// What was typed: the key of a record that may be entered, or a refusal.
-#[derive(Clone, Copy)]
-pub enum Typed {
-    Key(u32),
-    Refused(Refusal),
-}
-
-// The refusals, in their order.
-fn admit(set: OpenSet, kind: u8, tag: &[u8], value: u64) -> Typed
-    ensures { Allows set kind tag.now value result }
+// C hands the kind as a byte, which may be no kind's.
+pub fn enter(set: &mut OpenSet, kind: u8, tag: &[u8], value: u64) -> Result<(), Refusal>
+    ensures { EnterPromise (enter_outcome set.old kind tag.now value) set.old result set.new }
 {
-    if !is_open_set(set) {
-        return Typed::Refused(Refusal::OfferIllFormed);
+    if !is_open_set(*set) || !kind_and_value_ok(kind, value) {
+        return Err(Refusal::OfferIllFormed);
     }
-    if !kind_and_value_ok(kind, value) {
-        return Typed::Refused(Refusal::OfferIllFormed);
+    let Some(key) = read_tag(tag) else {
+        return Err(Refusal::BadTag);
+    };
+    if has_key(*set, key) {
+        return Err(Refusal::KeyEntered);
     }
-    match read_tag(tag) {
-        Tagged::Bad => Typed::Refused(Refusal::BadTag),
-        Tagged::Key(key) => {
-            if has_key(set, key) {
-                return Typed::Refused(Refusal::KeyEntered);
-            }
-            if is_full(set) {
-                return Typed::Refused(Refusal::NinthRecord);
-            }
-            Typed::Key(key)
-        }
+    if is_full(*set) {
+        return Err(Refusal::NinthRecord);
     }
-}
-
-pub fn entered(set: OpenSet, kind: u8, tag: &[u8], value: u64) -> Entering
-    ensures { EnterPromise (enter_outcome set kind tag.now value) set result.answer result.after }
-{
-    match admit(set, kind, tag, value) {
-        Typed::Refused(x) => Entering {
-            answer: Entered::Refused(x),
-            after: set,
-        },
-        Typed::Key(key) => Entering {
-            answer: Entered::Added,
-            after: with_record(set, kind, key, value),
-        },
-    }
+    *set = with_record(*set, Record { kind, key, value });
+    Ok(())
 }

@@ -1,44 +1,25 @@
-// Offering the open set, by value: its records are put.
-ghost use Rattle.std.specs.Prelude.{◌≡◌, length};
+// The open set offered: its records are put, and it is empty afterwards, unless the offer was refused.
+ghost use Rattle.std.specs.Prelude.{length};
 ghost use Rattle.rules.specs.Refused.{offer_outcome};
 ghost use Rattle.rules.specs.Promises.{OfferPromise};
-ghost use Rattle.laws.specs.Meets.{emptied};
 
 use gather::put;
 use open_sets::{empty_set, offered_length};
-use rules::{Answer, OpenSet};
+use rules::{OpenSet, Refusal};
 
-// What offering answers, and the open set after it.
-#[derive(Clone, Copy)]
-pub struct Offering {
-    pub answer: Answer,
-    pub after: OpenSet,
-}
-
-// The open set that an answer leaves: empty, unless it is a refusal.
-fn left_by(answer: Answer, set: OpenSet) -> OpenSet
-    ensures { result ≡ emptied answer set }
-{
-    let empty = empty_set();
-    match answer {
-        Answer::Wrote(_) => empty,
-        Answer::Refused(_) => set,
-    }
-}
-
-pub fn offered(
-    set: OpenSet,
+#[tactic(auto, using(crate::proofs::OfferLaws::offered_within))]
+pub fn offer(
+    set: &mut OpenSet,
     sheet: &[u8],
     epoch: u32,
     sen: u32,
     csn: u64,
     out: &mut [u8],
-) -> Offering
-    ensures { OfferPromise (offer_outcome set sheet.now epoch sen csn (length out.old)) set out.old result.answer result.after out.new }
+) -> Result<usize, Refusal>
+    ensures { OfferPromise (offer_outcome set.old sheet.now epoch sen csn (length out.old)) set.old out.old result set.new out.new }
 {
-    let n = offered_length(set);
-    let records = set.records;
-    let answer = put(sheet, epoch, sen, csn, &records[..n], out);
-    let after = left_by(answer, set);
-    Offering { answer, after }
+    let n = offered_length(*set);
+    let length = put(sheet, epoch, sen, csn, &set.records[..n], out)?;
+    *set = empty_set();
+    Ok(length)
 }

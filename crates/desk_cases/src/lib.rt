@@ -1,8 +1,7 @@
 // The desk's operations, run on the numbers and the inputs of a case.
 #![tactic(auto)]
 
-mod bridges;
 mod sets;
 mod visits;
 
-pub use visits::{run_enter, run_offer, run_tag};
+pub use visits::{Entered, Offered, run_enter, run_offer, run_tag};

@@ -1,7 +1,7 @@
 -- The tests of a body's bytes decide whether its records are sound and written as these bytes.
-use Prim.Native.Nat.{ℕ, zero, suc, ◌+◌, ◌*◌, ◌/◌, ◌%◌, ◌^◌, ◌-◌, ◌≤◌, ◌<◌}
+use Prim.Native.Nat.{ℕ, zero, suc, ◌+◌, ◌*◌, ◌/◌, ◌%◌, ◌-◌, ◌≤◌, ◌<◌}
 use mathlib.Core.Path.{◌≡◌, refl, sym, ap, ◌∙◌}
-use mathlib.Core.Bool.{Bool, true}
+use mathlib.Core.Bool.{Bool, true, false}
 use mathlib.Core.List.{[], ◌∷◌, ◌++◌, map, append_assoc, append-nil}
 use native.Mathlib.Omega.{arith}
 use borrow.Author.Tests.{lt-ltb, eq-eqb, ltb-true, eqb-true}
@@ -12,45 +12,34 @@ use lib.Dec.{leb}
 use Rattle.words.specs.Words.{Bytes, le, word}
 use Rattle.words.specs.WordLaws.{word_fits}
 use Rattle.rules.specs.Lists.{◌and◌, all, flat, same, ascend_from}
-use Rattle.rules.specs.Numbers.{fits}
 use Rattle.rules.specs.Forms.{well_formed}
-use Rattle.rules.specs.Sheet.{record_key, is_kind, sound_value, sound_record, record_bytes, records_bytes, record_in, records_in, max_records, offered_records, sound_records, are_records}
+use Rattle.rules.specs.Sheet.{record_key, sound_value, sound_record, record_bytes, records_bytes, record_in, records_in, max_records, offered_records, sound_records, are_records}
 use Rattle.laws.specs.Tests.{left, right, both, same_tests}
-use Rattle.laws.specs.FormLaws.{fits→, →fits, same→}
+use Rattle.laws.specs.FormLaws.{→fits, same→}
 use Rattle.laws.specs.SheetLaws.{records_length, records_count}
-use Rattle.laws.specs.Says.{Says, is_lt, is_le, is_eq, itself, shaped, retold, ◌also◌, ◌so◌}
+use Rattle.laws.specs.Loops.{stops, goes}
+use Rattle.laws.specs.Says.{Says}
 use Rattle.examine.specs.SheetForm.{zeros, record_ok, body_ok, records_ok}
 use Rattle.laws.specs.BytesHere.{Octets, octets, and_assoc, and_true, byte_here, itself_here, word_here}
 
--- a kind, and a value of 64 bits that it may have
-pub value_says : (kind value : ℕ) → value < 256 ^ 8 → Says (is_kind kind and sound_value kind value) (((1 ≤ kind) × (kind ≤ 3)) × (kind ≡ 3 → value ≡ 0))
-unfolding is_kind sound_value
-value_says kind value h =
-    shaped (λ r. (r.0, r.1.1)) (λ r. (r.0, (→fits 8 value h, r.1)))
-    ((is_le 1 kind also is_le kind 3) also (itself (fits 8 value) also ◌so◌ (is_eq kind 3) (is_eq value 0)))
+-- a walk that is behind the first i of n records: what is left to test decides the whole, and stops, goes on, or ends
+module _ {whole : Bool} (n i prev : ℕ) (b : Bytes) (at : ℕ) (left-of : whole ≡ body_ok (n - i) prev b (at + 16 * i)) where
+  body_more : i < n → body_ok (n - i) prev b (at + 16 * i) ≡ record_ok prev b (at + 16 * i) and body_ok (n - (i + 1)) (word 4 b (at + 16 * i + 4)) b (at + 16 * (i + 1))
+  unfolding body_ok
+  body_more h =
+      let e : n - i ≡ suc (n - (i + 1)) = omega arith in
+      let f : at + 16 * (i + 1) ≡ at + 16 * i + 16 = omega arith in
+      rw (e, f)
 
--- of which the 64 bits are a part
-pub value_told : (kind value : ℕ) → is_kind kind and sound_value kind value ≡ true → ((1 ≤ kind) × (kind ≤ 3)) × (kind ≡ 3 → value ≡ 0)
-value_told kind value e = (value_says kind value (fits→ 8 value (unfold sound_value in left _ _ (right (is_kind kind) _ e)))).told e
+  pub body_stops : i < n → record_ok prev b (at + 16 * i) ≡ false → false ≡ whole
+  body_stops h = stops _ _ left-of (body_more h)
 
--- what is tested of a record, as facts
-pub record_tests : (prev : ℕ) (b : Bytes) (at : ℕ)
-    → Says (record_ok prev b at)
-    (((1 ≤ get_or b at 0) × (get_or b at 0 ≤ 3)) × (((0 ≡ get_or b (at + 1) 0) × ((0 ≡ get_or b (at + 2) 0) × (0 ≡ get_or b (at + 3) 0))) × ((prev < word 4 b (at + 4)) × (get_or b at 0 ≡ 3 → word 8 b (at + 8) ≡ 0))))
-unfolding record_ok is_kind zeros
-record_tests prev b at =
-    (is_le _ _ also is_le _ _) also (is_eq _ _ also is_eq _ _ also is_eq _ _) also is_lt _ _ also ◌so◌ (is_eq _ _) (is_eq _ _)
+  pub body_goes : i < n → record_ok prev b (at + 16 * i) ≡ true → {key : ℕ} → key ≡ word 4 b (at + 16 * i + 4) → whole ≡ body_ok (n - (i + 1)) key b (at + 16 * (i + 1))
+  body_goes h e k = goes _ _ left-of (body_more h) e ∙ rw k
 
--- one record, and those behind it
-pub body_more : (n prev : ℕ) (b : Bytes) (at : ℕ) → 0 < n → body_ok n prev b at ≡ record_ok prev b at and body_ok (n - 1) (word 4 b (at + 4)) b (at + 16)
-unfolding body_ok
-body_more zero prev b at h = absurd (omega arith)
-body_more (suc n) prev b at h = let e : suc n - 1 ≡ n = omega arith in rw e
-
-pub body_none : (n prev : ℕ) (b : Bytes) (at : ℕ) → n ≤ 0 → body_ok n prev b at ≡ true
-unfolding body_ok
-body_none zero prev b at h = refl
-body_none (suc n) prev b at h = absurd (omega arith)
+  pub body_ends : n ≤ i → true ≡ whole
+  unfolding body_ok
+  body_ends h = let e : n - i ≡ 0 = omega arith in sym (left-of ∙ rw e)
 
 -- three zero bytes in each of n records
 pub zeros_in : ℕ → Bytes → ℕ → Bool
@@ -161,8 +150,6 @@ module _ (b : Bytes) (o : Octets b) where
           let f = (set_says n 0).told (right _ _ e) in
           both f.0 (records_written n (omega arith) ∙ f.1)
 
--- the same in the facts that `are_records` tests, of bytes as a slice has them
-pub records_says : (b : Bytes) → ((k : ℕ) → Fits w8 (get_or b k 0))
-    → Says (are_records b) ((length b % 16 ≡ 0) × ((1 ≤ length b / 16) × ((length b / 16 ≤ max_records) × (body_ok (length b / 16) 0 b 0 ≡ true))))
-unfolding records_ok
-records_says b h = retold (are_records_by b (octets b h)) (is_eq _ _ also is_le _ _ also is_le _ _ also itself _)
+-- of bytes as a slice has them
+pub are_records_lem : (b : Bytes) → ((k : ℕ) → Fits w8 (get_or b k 0)) → are_records b ≡ records_ok b
+are_records_lem b h = are_records_by b (octets b h)

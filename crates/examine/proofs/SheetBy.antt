@@ -2,12 +2,13 @@
 use Prim.Native.Nat.{ℕ, zero, suc, ◌+◌, ◌*◌, ◌^◌, ◌≤◌, ◌<◌}
 use mathlib.Core.Path.{◌≡◌, refl, sym, ap, ◌∙◌}
 use mathlib.Core.Bool.{Bool, true, false}
-use mathlib.Core.List.{List, [], ◌∷◌, ◌++◌, append_assoc, append-nil}
+use mathlib.Core.List.{[], ◌∷◌, ◌++◌, append_assoc, append-nil}
 use native.Mathlib.Omega.{arith}
 use borrow.Author.Tests.{le-leb, eq-eqb, leb-true, eqb-true, eqb-false}
 use lib.ListN.{length, get_or, drop, length-append, length-take, length-drop, drop_of_length-le}
 use lib.Seq.{get_or-take, get_or-drop}
 use lib.Dec.{leb, eqb}
+use Rattle.std.proofs.lemmas.List.{get_or_default}
 use Rattle.words.specs.Words.{Bytes, le, word, part}
 use Rattle.words.specs.WordLaws.{le_length, word_fits, part_length}
 use Rattle.rules.specs.Lists.{◌and◌, all, same, up_from}
@@ -37,13 +38,7 @@ part_long : (b : Bytes) → length (part b 8 16) ≡ 16 → 24 ≤ length b
 unfolding part
 part_long b e = omega (arith, simp (length-take, length-drop) at e)
 
--- inside a list it does not matter what stands outside
-inside : (l : List ℕ) (i d e : ℕ) → i < length l → get_or l i d ≡ get_or l i e
-inside [] i d e h = absurd (omega arith)
-inside (x ∷ l) zero d e h = refl
-inside (x ∷ l) (suc i) d e h = inside l i d e (omega arith)
-
-all_same : (f g : ℕ → Bool) (k n : ℕ) → ((m : ℕ) → m < k + n → f m ≡ g m) → all f (up_from k n) ≡ all g (up_from k n)
+pub all_same : (f g : ℕ → Bool) (k n : ℕ) → ((m : ℕ) → m < k + n → f m ≡ g m) → all f (up_from k n) ≡ all g (up_from k n)
 unfolding all up_from
 all_same f g k zero h = refl
 all_same f g k (suc n) h = rw (h k (omega arith), all_same f g (suc k) n (λ m l. h m (omega arith)))
@@ -57,7 +52,7 @@ notices_by b h =
     (λ m l. rw (here m (omega arith), sets_of_lem m (set_count b) b 24 (24 + 16 * set_count b)))
   where
     here : (m : ℕ) → m < 16 → get_or (part b 8 16) m no_notice ≡ get_or b (8 + m) 0
-    here m l = unfold part in get_or-take 16 (drop 8 b) m no_notice l ∙ get_or-drop 8 b m no_notice ∙ inside b (8 + m) no_notice 0 (omega arith)
+    here m l = unfold part in get_or-take 16 (drop 8 b) m no_notice l ∙ get_or-drop 8 b m no_notice ∙ get_or_default b (8 + m) no_notice 0 (omega arith)
 
 module _ (b : Bytes) (o : Octets b) where
   head_here : (rest : Bytes) → 24 ≤ length b → same (head_bytes (sheet_in b) ++ rest) b ≡ leb (get_or b 6 0) 1 and same rest (drop 24 b)

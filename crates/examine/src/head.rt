@@ -2,71 +2,64 @@
 ghost use Rattle.std.specs.Prelude.{◌≡◌, ◌≤◌, ◌<◌, length};
 ghost use Rattle.words.specs.Words.{word};
 ghost use Rattle.rules.specs.Sheet.{in_roster};
-ghost use Rattle.examine.specs.SheetForm.{none_noticed, state_ok, head_ok};
+ghost use Rattle.examine.specs.SheetForm.{set_count, none_noticed, state_ok, head_ok};
 
 use rules::{MAX_SETS, NO_NOTICE};
-use words::{get16, get32};
+use words::Word;
 
-// Whether master m is in the roster.
-pub fn in_roster(b: &[u8], m: u32) -> bool
-    requires { (24 ≤ length b.now) × (m < 16) }
-    ensures { result ≡ in_roster (word 2 b.now 4) m }
-{
-    let roster = get16(b, 4);
-    (roster >> m) % 2 == 1
+// How long the head is: so many bytes of a stream tell how long head and contents are.
+pub const SHEET_HEAD: usize = 24;
+
+// Where the notices start, a byte each.
+pub const NOTICES: usize = 8;
+
+// Bytes that may be a sheet: there are enough for its head.
+#[derive(Clone, Copy)]
+pub struct Candidate<'a> {
+    pub bytes: &'a [u8],
+    ghost head: { 24 ≤ length bytes.now },
 }
 
-// Whether no master has a notice.
-fn no_notices(b: &[u8]) -> bool
-    requires { 24 ≤ length b.now }
-    ensures { result ≡ none_noticed b.now }
-{
-    let mut at: usize = 8;
-    while at < 24 {
-        if b[at] != NO_NOTICE {
-            return false;
-        }
-        at += 1;
+#[tactic(auto, using(std::proofs::lemmas::Bool::Decides::nat_tests), unfolding(crate::specs::SheetForm::state_ok, crate::specs::SheetForm::head_ok, rules::specs::Sheet::in_roster, rules::specs::Lists::run_lists))]
+impl Candidate<'_> {
+    pub fn set_count(&self) -> usize
+        ensures { result ≡ set_count self.now.bytes.now }
+    {
+        self.bytes[7] as usize
     }
-    true
-}
 
-// Whether the state is sound, or spoiled with no set and no notice.
-fn state_ok(b: &[u8]) -> bool
-    requires { 24 ≤ length b.now }
-    ensures { result ≡ state_ok b.now }
-{
-    if b[6] == 0 {
-        return true;
+    // Whether master m is in the roster.
+    pub fn in_roster(&self, m: u32) -> bool
+        requires { m < 16 }
+        ensures { result ≡ in_roster (word 2 self.now.bytes.now 4) m }
+    {
+        (u16::get(self.bytes, 4) >> m) % 2 == 1
     }
-    if b[6] != 1 {
-        return false;
-    }
-    if b[7] != 0 {
-        return false;
-    }
-    if !no_notices(b) {
-        return false;
-    }
-    true
-}
 
-// Whether the head is in order; the notices are held against the sets later.
-pub fn head_ok(b: &[u8]) -> bool
-    requires { 24 ≤ length b.now }
-    ensures { result ≡ head_ok b.now }
-{
-    if get32(b, 0) < 1 {
-        return false;
+    // Whether no master has a notice.
+    fn no_notices(&self) -> bool
+        ensures { result ≡ none_noticed self.now.bytes.now }
+    {
+        self.bytes[NOTICES..SHEET_HEAD]
+            .iter()
+            .all(|&notice| notice == NO_NOTICE)
     }
-    if get16(b, 4) < 1 {
-        return false;
+
+    // Whether the state is sound, or spoiled with no set and no notice.
+    fn state_ok(&self) -> bool
+        ensures { result ≡ state_ok self.now.bytes.now }
+    {
+        let state = self.bytes[6];
+        state == 0 || state == 1 && self.set_count() == 0 && self.no_notices()
     }
-    if !state_ok(b) {
-        return false;
+
+    // Whether the head is in order; the notices are held against the sets later.
+    pub fn head_ok(&self) -> bool
+        ensures { result ≡ head_ok self.now.bytes.now }
+    {
+        1 <= u32::get(self.bytes, 0)
+            && 1 <= u16::get(self.bytes, 4)
+            && self.state_ok()
+            && self.set_count() <= MAX_SETS
     }
-    if MAX_SETS < b[7] as usize {
-        return false;
-    }
-    true
 }

@@ -7,6 +7,7 @@ mod head;
 mod records;
 mod sheet;
 
-pub use contents::count_set;
-pub use records::{are_records, kind_and_value_ok, offered_count};
+pub use contents::{ENTRY, count_set};
+pub use head::{NOTICES, SHEET_HEAD};
+pub use records::{RECORD, are_records, kind_and_value_ok, offered_count};
 pub use sheet::is_sheet;

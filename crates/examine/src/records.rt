@@ -4,49 +4,36 @@ ghost use Rattle.rules.specs.Lists.{◌and◌};
 ghost use Rattle.rules.specs.Sheet.{are_records, offered_records, is_kind, sound_value};
 ghost use Rattle.examine.specs.SheetForm.{record_ok, body_ok};
 
-use rules::Record;
-use words::{get32, get64};
+use rules::{Kind, MAX_RECORDS};
+use words::Word;
 
-// Whether a kind is one, and a value one that it may have.
+// How long a record is.
+pub const RECORD: usize = 16;
+
+// Whether a kind is one, and a value one that it may have. The kind is a byte, since it is only now examined.
+#[tactic(auto, using(std::proofs::lemmas::Bool::Decides::nat_tests), unfolding(rules::specs::Sheet::is_kind, rules::specs::Sheet::sound_value, rules::specs::Numbers::fits, rules::specs::Lists::run_lists))]
 pub fn kind_and_value_ok(kind: u8, value: u64) -> bool
     ensures { result ≡ is_kind kind and sound_value kind value }
 {
-    if kind < Record::CHANGE {
-        return false;
+    match Kind::try_from(kind) {
+        Ok(Kind::Delete) => value == 0,
+        Ok(_) => true,
+        Err(_) => false,
     }
-    if Record::DELETE < kind {
-        return false;
-    }
-    if kind != Record::DELETE {
-        return true;
-    }
-    if value != 0 {
-        return false;
-    }
-    true
 }
 
-// Whether the record at a place is in order; prev is the key before it in its set, or 0.
+// Whether the record at a place is in order; prev is the key before it in its set, or 0. Here and in body_ok the bytes are the whole form's,
+// by whose places the definitions go: a slice cut for each record would be no plainer.
+#[tactic(auto, using(std::proofs::lemmas::Bool::Decides::nat_tests), unfolding(crate::specs::SheetForm::record_ok, crate::specs::SheetForm::zeros, rules::specs::Sheet::is_kind, rules::specs::Sheet::sound_value, rules::specs::Numbers::fits, rules::specs::Lists::run_lists))]
 fn record_ok(b: &[u8], at: usize, prev: u32) -> bool
     requires { at + 16 ≤ length b.now }
     ensures { result ≡ record_ok prev b.now at }
 {
-    if b[at + 1] != 0 {
-        return false;
-    }
-    if b[at + 2] != 0 {
-        return false;
-    }
-    if b[at + 3] != 0 {
-        return false;
-    }
-    if get32(b, at + 4) <= prev {
-        return false;
-    }
-    if !kind_and_value_ok(b[at], get64(b, at + 8)) {
-        return false;
-    }
-    true
+    b[at + 1] == 0
+        && b[at + 2] == 0
+        && b[at + 3] == 0
+        && prev < u32::get(b, at + 4)
+        && kind_and_value_ok(b[at], u64::get(b, at + 8))
 }
 
 // Whether the n records from a place on are a set's.
@@ -54,43 +41,30 @@ pub fn body_ok(b: &[u8], at: usize, n: usize) -> bool
     requires { at + 16 * n ≤ length b.now }
     ensures { result ≡ body_ok n 0 b.now at }
 {
-    let mut left = n;
-    let mut place = at;
-    let mut prev: u32 = 0;
-    while 0 < left {
+    let mut prev = 0;
+    for i in 0..n {
+        let place = at + RECORD * i;
         if !record_ok(b, place, prev) {
             return false;
         }
-        prev = get32(b, place + 4);
-        place += 16;
-        left -= 1;
+        prev = u32::get(b, place + 4);
     }
     true
 }
 
 // Whether the bytes are the records of a set that can be offered.
+#[tactic(auto, using(crate::proofs::RecordsBy::are_records_lem, std::proofs::lemmas::Bool::Decides::nat_tests), unfolding(crate::specs::SheetForm::records_ok, rules::specs::Lists::run_lists))]
 pub fn are_records(b: &[u8]) -> bool
     ensures { result ≡ are_records b.now }
 {
-    if b.len() % 16 != 0 {
-        return false;
-    }
-    let n = b.len() / 16;
-    if n < 1 {
-        return false;
-    }
-    if 8 < n {
-        return false;
-    }
-    if !body_ok(b, 0, n) {
-        return false;
-    }
-    true
+    let n = b.len() / RECORD;
+    b.len() % RECORD == 0 && 1 <= n && n <= MAX_RECORDS as usize && body_ok(b, 0, n)
 }
 
 // How many records an offered set has.
+#[tactic(auto, using(laws::specs::SheetLaws::records_count), unfolding(rules::specs::Sheet::offered_records))]
 pub fn offered_count(b: &[u8]) -> usize
     ensures { result ≡ length (offered_records b.now) }
 {
-    b.len() / 16
+    b.len() / RECORD
 }

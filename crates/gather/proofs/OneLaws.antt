@@ -1,58 +1,30 @@
--- What opening and the sheets of one offer write, over plain values.
-use Prim.Native.Nat.{ℕ, ◌*◌, ◌<◌, ◌≤◌}
-use mathlib.Core.Path.{◌≡◌, refl, sym, ◌∙◌, ap}
-use mathlib.Core.Bool.{true, false}
-use mathlib.Core.List.{List, [], ◌∷◌, map, append-nil}
-use native.Mathlib.Omega.{arith}
-use native.Mathlib.Decide.{ℕ_discrete}
-use borrow.Author.Tests.{eq-eqb, ne_eqb, lt-ltb, le-ltb, leb-true}
-use lib.ListN.{length, get_or, set, get_or-replicate, length-set}
-use lib.Seq.{ext_get_or, get_or-set_same, get_or-set_other}
+-- What the sheet of one offer is when it is written part by part, over plain values.
+use Rattle.std.specs.Prelude.{ℕ, ◌*◌, ◌<◌, ◌≤◌, ◌≡◌, refl, true, false, List, [], ◌∷◌, map, length, get_or, set}
+use Rattle.std.proofs.Common.{sym, ◌∙◌, ap, arith, append-nil, eq-eqb, ne_eqb, leb-true, get_or-set_same, get_or-set_other, length-set}
+use Rattle.std.proofs.Math.Decide.{ℕ_discrete}
+use Rattle.std.proofs.Math.Seq.{ext_get_or}
+use Rattle.std.proofs.lemmas.List.{get_or-replicate}
 use Rattle.words.specs.Words.{Bytes, stored}
 use Rattle.words.specs.WordLaws.{nothing_stored}
-use Rattle.rules.specs.declared.answer.Answer.TheVariants.{Wrote, Refused}
-use Rattle.rules.specs.declared.answer.Refusal.TheVariants.{WrongEpoch, WrongRoster, BufferShort}
 use Rattle.rules.specs.Lists.{flat, up_from}
 use Rattle.rules.specs.Forms.{well_formed}
 use Rattle.rules.specs.Sheet.{WriteSet, Sheet, no_notice, max_sets, max_records, masters, sound_records, records_bytes, contents_from, bodies, sheet_bytes, offered_records, are_records}
-use Rattle.rules.specs.Gathering.{a_set, a_notice, set_in, notice_in, sets_among, notices_among, put_set, distinct, notice_of, no_notices, sound_of, empty_sheet, holding}
-use Rattle.rules.specs.Refused.{done, sheet_room, open_outcome}
-use Rattle.rules.specs.Promises.{Promise}
+use Rattle.rules.specs.Gathering.{a_set, a_notice, set_in, notice_in, sets_among, notices_among, put_set, distinct, notice_of, no_notices, sound_of, holding}
 use Rattle.laws.specs.Tests.{left, right}
 use Rattle.laws.specs.FormLaws.{same→}
 use Rattle.laws.specs.SheetLaws.{records_length}
 use Rattle.laws.specs.GatherLaws.{notice_at_lem}
-use Rattle.laws.specs.Meets.{refuses, writes}
+use Rattle.laws.specs.Notices.{notice_by}
+use Rattle.laws.specs.NotRefused.{set_by}
 use Rattle.sheets.specs.SheetReadings.{master_count, notices_place, head_length, contents_place, entry_place, bodies_place, record_length, record_place, sheet_length, one_room, start_bytes, entry_bytes, total}
-use Rattle.sheets.specs.SheetSizes.{sheet_length_lem, empty_length}
-use Rattle.sheets.specs.SheetWritten.{sheet_stored, sheet_over}
-use Rattle.gather.specs.OneSheet.{Small, of_set, of_notice}
+use Rattle.sheets.specs.SheetSizes.{sheet_length_lem}
+use Rattle.sheets.specs.SheetWritten.{sheet_stored}
 
--- ---- opening
-
-empty_stored : (e r : ℕ) (l₀ : Bytes) {l₁ l₂ : Bytes} → l₁ ≡ stored l₀ 0 (start_bytes e r false 0) → l₂ ≡ stored l₁ notices_place no_notices → l₂ ≡ stored l₀ 0 (sheet_bytes (empty_sheet e r))
-unfolding empty_sheet sound_of contents_from bodies flat
-empty_stored e r l₀ {l₁} {l₂} p q = sheet_stored l₀ (empty_sheet e r) refl p q (nothing_stored l₂ contents_place) (nothing_stored l₂ (bodies_place 0))
-
-pub opened : (e r : ℕ) (l₀ : Bytes) {l₁ l₂ : Bytes} → (e ≡ 0 → ⊥) → (r ≡ 0 → ⊥) → sheet_room ≤ length l₀
-    → l₁ ≡ stored l₀ 0 (start_bytes e r false 0) → l₂ ≡ stored l₁ notices_place no_notices → Promise (open_outcome e r (length l₀)) l₀ (Wrote head_length) l₂
-unfolding open_outcome
-opened e r l₀ {l₁} {l₂} h k m p q =
-    let n = empty_length e r in
-    let o : open_outcome e r (length l₀) ≡ done (sheet_bytes (empty_sheet e r)) = simp (ne_eqb e 0 h, ne_eqb r 0 k, le-ltb (length l₀) sheet_room m) in
-    writes _ (sheet_bytes (empty_sheet e r)) l₀ l₂ head_length o (sym n) (sheet_over l₀ (empty_sheet e r) (omega arith) (empty_stored e r l₀ p q))
-
-pub no_epoch : (e r : ℕ) (l : Bytes) → e ≡ 0 → Promise (open_outcome e r (length l)) l (Refused WrongEpoch) l
-unfolding open_outcome
-no_epoch e r l h = refuses _ WrongEpoch l (simp (eq-eqb e 0 h))
-
-pub no_roster : (e r : ℕ) (l : Bytes) → (e ≡ 0 → ⊥) → r ≡ 0 → Promise (open_outcome e r (length l)) l (Refused WrongRoster) l
-unfolding open_outcome
-no_roster e r l h k = refuses _ WrongRoster l (simp (ne_eqb e 0 h, eq-eqb r 0 k))
-
-pub no_room : (e r : ℕ) (l : Bytes) → (e ≡ 0 → ⊥) → (r ≡ 0 → ⊥) → length l < sheet_room → Promise (open_outcome e r (length l)) l (Refused BufferShort) l
-unfolding open_outcome
-no_room e r l h k m = refuses _ BufferShort l (simp (ne_eqb e 0 h, ne_eqb r 0 k, lt-ltb (length l) sheet_room m))
+-- a small buffer that held `before` holds the sheet at its start, in which it has room, and n is the sheet's length
+pub record Small (s : Sheet) (before : Bytes) (n : ℕ) (after : Bytes) : Type 0 where
+  pub bytes : after ≡ stored before 0 (sheet_bytes s)
+  pub long : n ≡ length (sheet_bytes s)
+  pub fits : n ≤ length before
 
 -- ---- one set
 
@@ -87,8 +59,7 @@ set_stored e r w b l₀ {l₁} {l₂} {l₃} {l₄} x p q s t =
     (t ∙ ap (stored l₃ (bodies_place 1)) (sym x ∙ sym (append-nil _)))
 
 pub set_held : (e r sen csn n : ℕ) (b l₀ : Bytes) {l₁ l₂ l₃ l₄ : Bytes} → length l₀ ≡ one_room → Offered b → n ≡ length (offered_records b) → l₁ ≡ stored l₀ 0 (start_bytes e r false 1) → l₂ ≡ stored l₁ notices_place no_notices
-    → l₃ ≡ stored l₂ (entry_place 0) (entry_bytes csn sen 0 n) → l₄ ≡ stored l₃ (record_place 1 0) b → Small (of_set e r sen csn b) l₀ (sheet_length 1 n) l₄
-unfolding of_set
+    → l₃ ≡ stored l₂ (entry_place 0) (entry_bytes csn sen 0 n) → l₄ ≡ stored l₃ (record_place 1 0) b → Small (holding e r (a_set (set_by csn sen (offered_records b)) ∷ [])) l₀ (sheet_length 1 n) l₄
 set_held e r sen csn n b l₀ {l₁} {l₂} {l₃} {l₄} room f h p q s t =
     let w : WriteSet = record { csn = csn; sen = sen; records = offered_records b } in
     let one = set_sheet e r w in
@@ -139,8 +110,7 @@ notice_stored e r ns l₀ {l₁} {l₂} h p q =
     (sheet_stored l₀ (sound_of e r ns []) h p q (nothing_stored l₂ contents_place) (nothing_stored l₂ (bodies_place 0)), sym (sheet_length_lem (sound_of e r ns []) h))
 
 pub notice_held : (e r m n : ℕ) (l₀ : Bytes) {l₁ l₂ : Bytes} → length l₀ ≡ one_room → m < master_count → n ≤ max_sets → l₁ ≡ stored l₀ 0 (start_bytes e r false 0) → l₂ ≡ stored l₁ notices_place (set no_notices m n)
-    → Small (of_notice e r m n) l₀ head_length l₂
-unfolding of_notice
+    → Small (holding e r (a_notice (notice_by m n) ∷ [])) l₀ head_length l₂
 notice_held e r m n l₀ {l₁} {l₂} room h k p q =
     let one : sound_of e r (set no_notices m n) [] ≡ holding e r (a_notice (record { master = m; number = n }) ∷ []) =
     ap (λ (ns : List ℕ). sound_of e r ns []) (notices_of m n h k) ∙ sym (notice_sheet e r m n) in

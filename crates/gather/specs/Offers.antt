@@ -1,12 +1,15 @@
--- What an offer meets at a sheet: whether it is well-formed, and the refusals that a well-formed one may meet.
-use Rattle.std.specs.Prelude.{ℕ, ◌≤◌, ◌≡◌, Bool, true, not, ltb, leb, eqb, if◌then◌else◌}
+-- An offer as code has it: whether it is well-formed, whose it is, the paper's offer that it is, and what putting it into a sheet comes to.
+use Rattle.std.specs.Prelude.{ℕ, Bool, leb, if◌then◌else◌, Some, None}
 use Rattle.words.specs.Words.{Bytes}
-use Rattle.rules.specs.declared.answer.Refusal.TheVariants.{WrongEpoch, WrongRoster, BufferShort}
 use Rattle.rules.specs.Lists.{◌and◌}
-use Rattle.rules.specs.Sheet.{Sheet, max_sets, in_roster, are_records}
-use Rattle.rules.specs.Refused.{sheet_room}
-use Rattle.gather.specs.declared.offer.Admission.{Admission}
-use Rattle.gather.specs.declared.offer.Admission.TheVariants.{Granted, Refused}
+use Rattle.rules.specs.Numbers.{master_of}
+use Rattle.rules.specs.Sheet.{max_sets, read_sheet, offered_records, are_records}
+use Rattle.rules.specs.Gathering.{Offer, a_set, a_notice}
+use Rattle.rules.specs.Refused.{Outcome, offer_to}
+use Rattle.laws.specs.Notices.{notice_by}
+use Rattle.laws.specs.NotRefused.{set_by}
+use Rattle.gather.specs.declared.offer.Offer as code
+use Rattle.gather.specs.declared.offer.Offer.TheVariants as offer
 
 -- an offered set is well-formed
 unfoldable pub good_set : ℕ → ℕ → Bytes → Bool
@@ -16,16 +19,21 @@ good_set epoch sen b = leb 1 epoch and leb sen epoch and are_records b
 unfoldable pub good_notice : ℕ → ℕ → ℕ → Bool
 good_notice epoch master n = leb 1 epoch and leb master 15 and leb n max_sets
 
--- another epoch, a master outside the roster, a short buffer
-unfoldable pub admission_of : Sheet → ℕ → ℕ → ℕ → Admission
-admission_of s epoch master room =
-    if not (eqb epoch s.epoch) then Refused WrongEpoch else
-    if not (in_roster s.roster master) then Refused WrongRoster else
-    if ltb room sheet_room then Refused BufferShort else
-    Granted
+-- either is
+abbrev pub good : ℕ → code.Offer → Bool
+good epoch (offer.Set sen csn b) = good_set epoch sen b.now
+good epoch (offer.Notice master n) = good_notice epoch master n
 
--- what a grant says
-pub record Grant (s : Sheet) (epoch master room : ℕ) : Type 0 where
-  pub same : epoch ≡ s.epoch
-  pub roster : in_roster s.roster master ≡ true
-  pub enough : sheet_room ≤ room
+-- the master that makes it
+abbrev pub master_in : code.Offer → ℕ
+master_in (offer.Set sen csn b) = master_of csn
+master_in (offer.Notice master n) = master
+
+-- the offer that it is
+abbrev pub offer_of : code.Offer → Offer
+offer_of (offer.Set sen csn b) = a_set (set_by csn sen (offered_records b.now))
+offer_of (offer.Notice master n) = a_notice (notice_by master n)
+
+-- PUT AND NOTICE
+unfoldable pub add_outcome : Bytes → ℕ → code.Offer → ℕ → Outcome Bytes
+add_outcome sheet epoch o room = offer_to (read_sheet sheet) (if good epoch o then Some (offer_of o) else None) epoch (master_in o) room

@@ -1,130 +1,89 @@
-// Putting in a set or a notice: examined, admitted, and joined as the sheet of that one offer.
-ghost use Rattle.std.specs.Prelude.{◌≡◌, true, ◌≤◌, ◌<◌, length, take};
-ghost use Rattle.rules.specs.Sheet.{is_sheet, sheet_in, offered_records};
-ghost use Rattle.rules.specs.Refused.{sheet_room, put_outcome, notice_outcome};
-ghost use Rattle.rules.specs.Promises.{Promise};
-ghost use Rattle.rules.specs.Numbers.{master_of};
-ghost use Rattle.rules.specs.Gathering.{a_set, a_notice, with_offer, joined};
-ghost use Rattle.laws.specs.Notices.{notice_by};
-ghost use Rattle.laws.specs.NotRefused.{set_by};
-ghost use Rattle.sheets.specs.SheetReadings.{master_count};
-ghost use Rattle.joining.specs.Writes.{Written};
-ghost use Rattle.gather.specs.OneSheet.{Joinable};
-ghost use Rattle.gather.specs.Offers.{good_set, good_notice, admission_of, Grant};
+// What is put into a sheet, and the sheet that holds it alone: putting an offer in is joining with that sheet.
+ghost use Rattle.std.specs.Prelude.{◌≡◌, true, length};
+ghost use Rattle.rules.specs.Sheet.{in_roster};
+ghost use Rattle.rules.specs.Gathering.{with_offer, joined};
+ghost use Rattle.sheets.specs.SheetReadings.{one_room};
+ghost use Rattle.sheets.specs.Views.{sheet_of};
+ghost use Rattle.gather.specs.OneSheet.{Joins};
 
-use crate::one::{one_notice, one_set};
-use forms::{ONE_ROOM, are_records, epoch, in_roster, is_sheet, roster};
-use joining::join_into;
-use rules::{Answer, MAX_NOTICE, Refusal, SHEET_ROOM};
+use forms::{
+    MASTERS, ONE_ROOM, Sheet, are_records, length_with, offered_count, put_body, put_entry,
+    put_no_notices, put_notices, put_sheet_start,
+};
+use rules::{MAX_NOTICE, NO_NOTICE};
 
-// Whether a sheet takes an offer in.
+// A set with its records' bytes, or how many sets a master noticed.
 #[derive(Clone, Copy)]
-pub enum Admission {
-    Granted,
-    Refused(Refusal),
+pub enum Offer<'a> {
+    Set {
+        sen: u32,
+        csn: u64,
+        records: &'a [u8],
+    },
+    Notice {
+        master: u8,
+        count: u8,
+    },
 }
 
-fn is_set(epoch: u32, sen: u32, records: &[u8]) -> bool
-    ensures { result ≡ good_set epoch sen records.now }
-{
-    if epoch < 1 {
-        return false;
-    }
-    if epoch < sen {
-        return false;
-    }
-    if !are_records(records) {
-        return false;
-    }
-    true
-}
+impl<'a> Offer<'a> {
+    ghost use Rattle.gather.specs.Offers.{good, master_in, offer_of};
 
-fn is_notice(epoch: u32, master: u8, count: u8) -> bool
-    ensures { result ≡ good_notice epoch master count }
-{
-    if epoch < 1 {
-        return false;
+    // Whether it is well-formed.
+    pub fn is_good(&self, epoch: u32) -> bool
+        ensures { result ≡ good epoch self.now }
+    {
+        match *self {
+            Offer::Set { sen, records, .. } => 1 <= epoch && sen <= epoch && are_records(records),
+            Offer::Notice { master, count } => 1 <= epoch && master <= 15 && count <= MAX_NOTICE,
+        }
     }
-    if 15 < master {
-        return false;
-    }
-    if MAX_NOTICE < count {
-        return false;
-    }
-    true
-}
 
-// The refusals that a well-formed offer of a master may meet.
-fn admit(sheet: &[u8], offered: u32, master: u32, room: usize) -> Admission
-    requires { (is_sheet sheet.now ≡ true) × (master < master_count) }
-    ensures { result ≡ admission_of (sheet_in sheet.now) offered master room }
-{
-    if offered != epoch(sheet) {
-        return Admission::Refused(Refusal::WrongEpoch);
+    // Whose it is.
+    pub fn master(&self) -> u32
+        ensures { result ≡ master_in self.now }
+    {
+        match *self {
+            Offer::Set { csn, .. } => (csn % 16) as u32,
+            Offer::Notice { master, .. } => master as u32,
+        }
     }
-    if !in_roster(sheet, master) {
-        return Admission::Refused(Refusal::WrongRoster);
-    }
-    if room < SHEET_ROOM {
-        return Admission::Refused(Refusal::BufferShort);
-    }
-    Admission::Granted
-}
 
-// The sheet of one offer, the first n bytes of a small buffer, joined.
-fn add<'a>(sheet: &'a [u8], one: &'a [u8], n: usize, out: &mut [u8]) -> usize
-    requires { (is_sheet sheet.now ≡ true) × (Joinable (sheet_in sheet.now) one.now n) × (sheet_room ≤ length out.old) }
-    ensures { Written (joined (sheet_in sheet.now) (sheet_in (take n one.now))) out.old result out.new }
-{
-    join_into(sheet, &one[..n], out)
-}
+    // The sheet of this one offer, of another's epoch and roster, in a small buffer: joining with it is putting the offer in.
+    pub fn alone<'b>(&self, sheet: &Sheet, one: &'b mut [u8; ONE_ROOM]) -> Sheet<'b>
+        requires good { good (sheet_of sheet.now).epoch self.now ≡ true }
+        requires admitted { in_roster (sheet_of sheet.now).roster (master_in self.now) ≡ true }
+        ensures { joined (sheet_of sheet.now) (sheet_of result) ≡ with_offer (sheet_of sheet.now) (offer_of self.now) }
+    {
+        let n = self.put_alone(sheet, one);
+        Sheet { bytes: &one[..n] }
+    }
 
-// An admitted set, joined as a sheet of its own.
-fn add_set(sheet: &[u8], epoch: u32, sen: u32, csn: u64, records: &[u8], out: &mut [u8]) -> usize
-    requires { (is_sheet sheet.now ≡ true) × (good_set epoch sen records.now ≡ true) × (Grant (sheet_in sheet.now) epoch (master_of csn) (length out.old)) }
-    ensures { Written (with_offer (sheet_in sheet.now) (a_set (set_by csn sen (offered_records records.now)))) out.old result out.new }
-{
-    let mut one = [0u8; ONE_ROOM];
-    let n = one_set(&mut one, epoch, roster(sheet), sen, csn, records);
-    add(sheet, &one, n, out)
-}
-
-// An admitted notice, joined as a sheet of its own.
-fn add_notice(sheet: &[u8], epoch: u32, master: u8, count: u8, out: &mut [u8]) -> usize
-    requires { (is_sheet sheet.now ≡ true) × (good_notice epoch master count ≡ true) × (Grant (sheet_in sheet.now) epoch master (length out.old)) }
-    ensures { Written (with_offer (sheet_in sheet.now) (a_notice (notice_by master count))) out.old result out.new }
-{
-    let mut one = [0u8; ONE_ROOM];
-    let n = one_notice(&mut one, epoch, roster(sheet), master, count);
-    add(sheet, &one, n, out)
-}
-
-pub fn put(sheet: &[u8], epoch: u32, sen: u32, csn: u64, records: &[u8], out: &mut [u8]) -> Answer
-    ensures { Promise (put_outcome sheet.now epoch sen csn records.now (length out.old)) out.old result out.new }
-{
-    if !is_sheet(sheet) {
-        return Answer::Refused(Refusal::SheetIllFormed);
-    }
-    if !is_set(epoch, sen, records) {
-        return Answer::Refused(Refusal::OfferIllFormed);
-    }
-    match admit(sheet, epoch, (csn % 16) as u32, out.len()) {
-        Admission::Refused(x) => Answer::Refused(x),
-        Admission::Granted => Answer::Wrote(add_set(sheet, epoch, sen, csn, records, out)),
-    }
-}
-
-pub fn notice(sheet: &[u8], epoch: u32, master: u8, count: u8, out: &mut [u8]) -> Answer
-    ensures { Promise (notice_outcome sheet.now epoch master count (length out.old)) out.old result out.new }
-{
-    if !is_sheet(sheet) {
-        return Answer::Refused(Refusal::SheetIllFormed);
-    }
-    if !is_notice(epoch, master, count) {
-        return Answer::Refused(Refusal::OfferIllFormed);
-    }
-    match admit(sheet, epoch, master as u32, out.len()) {
-        Admission::Refused(x) => Answer::Refused(x),
-        Admission::Granted => Answer::Wrote(add_notice(sheet, epoch, master, count, out)),
+    // Its length is handed back: of a set a head, one entry and its records, of a notice a head.
+    fn put_alone(&self, sheet: &Sheet, one: &mut [u8]) -> usize
+        requires good { good (sheet_of sheet.now).epoch self.now ≡ true }
+        requires admitted { in_roster (sheet_of sheet.now).roster (master_in self.now) ≡ true }
+        requires room { length one.old ≡ one_room }
+        ensures { Joins (sheet_of sheet.now) (offer_of self.now) one.new result }
+    {
+        let epoch = sheet.epoch();
+        let roster = sheet.roster();
+        match *self {
+            Offer::Set { sen, csn, records } => {
+                let n = offered_count(records);
+                put_sheet_start(one, epoch, roster, false, 1);
+                put_no_notices(one);
+                put_entry(one, 0, csn, sen, 0, n);
+                put_body(one, 1, 0, records);
+                length_with(1, n)
+            }
+            Offer::Notice { master, count } => {
+                let mut notices = [NO_NOTICE; MASTERS];
+                notices[master as usize] = count;
+                put_sheet_start(one, epoch, roster, false, 0);
+                put_notices(one, &notices);
+                length_with(0, 0)
+            }
+        }
     }
 }

@@ -4,21 +4,21 @@ ghost use Rattle.rules.specs.Refused.{open_outcome};
 ghost use Rattle.rules.specs.Promises.{Promise};
 
 use forms::{length_with, put_no_notices, put_sheet_start};
-use rules::{Answer, Refusal, SHEET_ROOM};
+use rules::{Refusal, SHEET_ROOM};
 
-pub fn open(epoch: u32, roster: u16, out: &mut [u8]) -> Answer
+pub fn open(epoch: u32, roster: u16, out: &mut [u8]) -> Result<usize, Refusal>
     ensures { Promise (open_outcome epoch roster (length out.old)) out.old result out.new }
 {
     if epoch == 0 {
-        return Answer::Refused(Refusal::WrongEpoch);
+        return Err(Refusal::WrongEpoch);
     }
     if roster == 0 {
-        return Answer::Refused(Refusal::WrongRoster);
+        return Err(Refusal::WrongRoster);
     }
     if out.len() < SHEET_ROOM {
-        return Answer::Refused(Refusal::BufferShort);
+        return Err(Refusal::BufferShort);
     }
     put_sheet_start(out, epoch, roster, false, 0);
     put_no_notices(out);
-    Answer::Wrote(length_with(0, 0))
+    Ok(length_with(0, 0))
 }

@@ -1,18 +1,15 @@
 -- What was joined into a buffer of its own, and copied from there, is joined in place; what is joined is a sheet, and joining refuses with 2, 4 or 5.
-use Rattle.std.specs.Prelude.{if◌then◌else◌}
-use Prim.Native.Nat.{ℕ, ◌≤◌}
+use Rattle.std.specs.Prelude.{if◌then◌else◌, Option, None, Some, Ok, Err}
+use Prim.Native.Nat.{ℕ}
 use mathlib.Core.Path.{◌≡◌, sym, subst, ◌∙◌, ap}
+use mathlib.Core.List.{◌++◌}
 use mathlib.Core.Bool.{Bool, true, false, not}
-use mathlib.Core.Option.{Option, none, some}
 use native.Mathlib.Omega.{arith}
-use lib.ListN.{length, take, length-take}
+use lib.ListN.{length, take, drop, length-take}
 use lib.Dec.{eqb}
-use Rattle.words.specs.Words.{Bytes, part, stored}
-use Rattle.words.specs.WordLaws.{stored_front}
+use Rattle.words.specs.Words.{Bytes}
 use Rattle.rules.specs.declared.answer.Refusal.{Refusal}
-use Rattle.rules.specs.declared.answer.Answer.{Answer}
-use Rattle.rules.specs.declared.answer.Answer.TheVariants.{Wrote, Refused}
-use Rattle.rules.specs.Answers.{refusal_number, answer_numbers}
+use Rattle.rules.specs.Answers.{Answer, refusal_number, answer_numbers}
 use Rattle.rules.specs.Sheet.{Sheet, is_sheet, read_sheet}
 use Rattle.rules.specs.Refused.{Outcome, refused, done, sheet_room, join_sheets, join_outcome}
 use Rattle.rules.specs.Promises.{over, Promise}
@@ -25,27 +22,27 @@ use Rattle.input.specs.Reading.{Holds, Early, sheet, epochs, rosters}
 
 module _ (a b : Bytes) (room : ℕ) {x : Answer} {before after : Bytes} (p : Promise (join_outcome a b room) before x after) where
   -- the bytes that are answered are what was joined
-  wrote : (n : ℕ) → x ≡ Wrote n → (join_outcome a b room ≡ done (take n after)) × (n ≡ length (take n after))
+  wrote : (n : ℕ) → x ≡ Ok n → (join_outcome a b room ≡ done (take n after)) × (n ≡ length (take n after))
   wrote n e =
-      let k : Promise (join_outcome a b room) before (Wrote n) after = rw e at p in
+      let k : Promise (join_outcome a b room) before (Ok n) after = rw e at p in
       let d = kept_done (join_outcome a b room) (numbered (join_exactly a b room)) k in
       (d, ap (λ (y : Answer). (answer_numbers y).1) (kept_wrote (join_outcome a b room) d k).0)
 
   -- a sheet at the start of the buffer
-  pub joined_holds : (n : ℕ) → x ≡ Wrote n → Holds is_sheet after n
+  pub joined_holds : (n : ℕ) → x ≡ Ok n → Holds is_sheet after n
   joined_holds n e =
       let w = wrote n e in
       let s = join_sound a b room (take n after) w.0 in
       record { within = omega (arith, w.1, length-take n after); examined = ap is_sheet s.2 ∙ sheet_is s.0 s.1 }
 
   -- and copied from there, it is joined in place
-  pub joined_in : {l l' : Bytes} (n : ℕ) → length after ≤ length l → x ≡ Wrote n → l' ≡ stored l 0 (part after 0 n) → Promise (join_outcome a b room) l (Wrote n) l'
-  unfolding part over
-  joined_in {l} {l'} n r e q =
+  pub joined_in : {l front : Bytes} (n : ℕ) → x ≡ Ok n → front ≡ take n after → Promise (join_outcome a b room) l (Ok n) (front ++ drop n l)
+  unfolding over
+  joined_in {l} n e q =
       let w = wrote n e in
-      writes (join_outcome a b room) (take n after) l l' n w.0 w.1 (q ∙ stored_front l (take n after) (omega (arith, length-take n after)))
+      writes (join_outcome a b room) (take n after) l _ n w.0 w.1 (rw q (ap (λ (k : ℕ). take n after ++ drop k l) w.1))
 
-  pub not_joined : {l : Bytes} (y : Refusal) → x ≡ Refused y → Promise (join_outcome a b room) l (Refused y) l
+  pub not_joined : {l : Bytes} (y : Refusal) → x ≡ Err y → Promise (join_outcome a b room) l (Err y) l
   not_joined {l} y e = refuses (join_outcome a b room) y l (kept_refused (join_outcome a b room) (rw e at p)).0
 
 -- the same of an equal outcome
@@ -64,10 +61,10 @@ unfolding join_outcome join_sheets
 join_early a b k p = go (read_sheet a) (read_sheet b) p
   where
     go : (x y : Option Sheet) → join_sheets x y sheet_room ≡ refused k → Early k
-    go none y p = subst Early (refused_same p) sheet
-    go (some s) none p = subst Early (refused_same p) sheet
-    go (some s) (some t) p =
+    go None y p = subst Early (refused_same p) sheet
+    go (Some s) None p = subst Early (refused_same p) sheet
+    go (Some s) (Some t) p =
         tested (not (eqb s.epoch t.epoch)) 4 _ epochs (λ q. tested (not (eqb s.roster t.roster)) 5 _ rosters (λ r. absurd (refused_not (sym r))) q) p
 
-pub join_refusal : (a b : Bytes) {x : Answer} {before after : Bytes} → Promise (join_outcome a b sheet_room) before x after → (y : Refusal) → x ≡ Refused y → Early (refusal_number y)
+pub join_refusal : (a b : Bytes) {x : Answer} {before after : Bytes} → Promise (join_outcome a b sheet_room) before x after → (y : Refusal) → x ≡ Err y → Early (refusal_number y)
 join_refusal a b p y e = join_early a b _ (kept_refused (join_outcome a b sheet_room) (rw e at p)).0

@@ -1,2 +1,1 @@
 pub mod JoinLaws
-pub mod ReadLaws

@@ -1,5 +1,5 @@
 // The closing program's input: a register, and the sheet of all sheets joined.
-#![tactic(auto)]
+#![tactic(auto, using(crate::specs::Reading::sheet))]
 
 mod join;
 mod reading;

@@ -1,39 +1,37 @@
 -- What the sets from set i on apply that commit by a table: what there is for a key, and how many records there are of a kind.
-use Rattle.std.specs.Prelude.{if◌then◌else◌}
+use Rattle.std.specs.Prelude.{if◌then◌else◌, Option, None, Some}
 use Prim.Native.Nat.{ℕ, suc, ◌+◌, ◌-◌, ◌≤◌, ◌<◌}
 use mathlib.Core.Path.{◌≡◌, refl, sym, ◌∙◌, ap}
 use mathlib.Core.Bool.{Bool, true, false}
 use mathlib.Core.List.{List, [], ◌∷◌, ◌++◌, map}
-use mathlib.Core.Option.{Option, none, some}
 use native.Mathlib.Nat.{sub-zero}
 use native.Mathlib.Numerals.{add-one}
 use native.Mathlib.Omega.{arith}
-use borrow.Author.Tests.{eq-eqb, ne_eqb}
-use lib.ListN.{length, take, length-append}
+use lib.ListN.{length, length-append}
 use lib.Dec.{eqb}
 use Rattle.rules.specs.declared.mark.Mark.{Mark}
 use Rattle.rules.specs.declared.row.Record.{Record}
 use Rattle.rules.specs.Lists.{keep, first, flat, count, up_from}
-use Rattle.rules.specs.Sheet.{WriteSet, Sheet}
+use Rattle.rules.specs.Sheet.{WriteSet, Sheet, max_records}
 use Rattle.rules.specs.Closing.{names, mark_in}
 use Rattle.rules.specs.Becoming.{applied, applied_to, committed_on}
 use Rattle.laws.specs.Tests.{not_true_false}
 use Rattle.laws.specs.Says.{clash}
 use Rattle.laws.specs.ListLaws.{any→, →any, first→, first_none}
-use Rattle.laws.specs.Places.{count_yes, count_no, count_none, count_all}
-use Rattle.sheets.specs.SheetReadings.{set_at, record_at, no_record}
-use Rattle.judging.specs.declared.effect.Effect.TheVariants.{Write, Nothing}
-use Rattle.judging.specs.declared.recorded.Recorded.{Recorded}
-use Rattle.judging.specs.declared.recorded.Recorded.TheVariants.{As, Nowhere}
-use Rattle.judging.specs.Answers.{recorded, AppliesTo}
+use Rattle.sheets.specs.declared.set.WriteSet as view
+use Rattle.sheets.specs.SheetReadings.{set_at}
+use Rattle.sheets.specs.SheetSizes.{few_records}
+use Rattle.sheets.specs.Views.{set_of}
+use Rattle.judging.specs.Answers.{AppliesTo}
 use Rattle.judging.specs.Tables.{none_at, committed_in}
 use Rattle.judging.specs.Judged.{of_kind}
+use Rattle.judging.proofs.Numbers.{count_fits}
 
 -- the sets that commit by the table, of those from set i on
-unfoldable pub committed_from : Sheet → List ℕ → ℕ → List WriteSet
+unfoldable pub committed_from : Sheet → List (Option ℕ) → ℕ → List WriteSet
 committed_from s lost i = map (set_at s) (keep (none_at lost) (up_from i (length s.sets - i)))
 
-module _ (s : Sheet) (lost : List ℕ) where
+module _ (s : Sheet) (lost : List (Option ℕ)) where
   from_start : committed_from s lost 0 ≡ committed_in s lost
   unfolding committed_from committed_in
   from_start = rw (sub-zero (length s.sets))
@@ -56,28 +54,10 @@ module _ (s : Sheet) (lost : List ℕ) where
 
 -- ---- what is applied to a key
 
--- the record that was found, if one was
-record_of : Recorded → Option Record
-record_of (As r) = some r
-record_of Nowhere = none
-
-recorded_back : (o : Option Record) → record_of (recorded o) ≡ o
-unfolding recorded record_of
-recorded_back none = refl
-recorded_back (some r) = refl
-
-pub as_record : {a : Recorded} {o : Option Record} {r : Record} → a ≡ recorded o → a ≡ As r → o ≡ some r
-unfolding record_of
-as_record {o = o} p q = sym (recorded_back o) ∙ ap record_of (sym p ∙ q)
-
-pub no_record_lem : {a : Recorded} {o : Option Record} → a ≡ recorded o → a ≡ Nowhere → o ≡ none
-unfolding record_of
-no_record_lem {o = o} p q = sym (recorded_back o) ∙ ap record_of (sym p ∙ q)
-
 -- the first of two, or the second where there is no first
 abbrev or_else : {A : Type 0} → Option A → Option A → Option A
-or_else (some x) b = some x
-or_else none b = b
+or_else (Some x) b = Some x
+or_else None b = b
 
 first_append : {A : Type 0} (p : A → Bool) (xs ys : List A) → first p (xs ++ ys) ≡ or_else (first p xs) (first p ys)
 unfolding first
@@ -85,22 +65,22 @@ first_append p [] ys = refl
 first_append p (x ∷ xs) ys = go (p x) (first_append p xs ys)
   where
     go : (t : Bool) → first p (xs ++ ys) ≡ or_else (first p xs) (first p ys)
-        → (if t then some x else first p (xs ++ ys)) ≡ or_else (if t then some x else first p xs) (first p ys)
+        → (if t then Some x else first p (xs ++ ys)) ≡ or_else (if t then Some x else first p xs) (first p ys)
     go true e = refl
     go false e = e
 
 -- a set names the key just when it has a record for it
 module _ (w : WriteSet) (key : ℕ) where
-  names_found : {r : Record} → applied_to w.records key ≡ some r → names w key ≡ true
+  names_found : {r : Record} → applied_to w.records key ≡ Some r → names w key ≡ true
   unfolding applied_to names
   names_found e = let f = first→ (λ r. eqb r.key key) w.records e in →any (λ r. eqb r.key key) f.0 f.1
 
-  names_none : applied_to w.records key ≡ none → names w key ≡ false
+  names_none : applied_to w.records key ≡ None → names w key ≡ false
   unfolding applied_to names
   names_none e =
       not_true_false (λ n. let a = any→ (λ r. eqb r.key key) w.records n in clash a.2 (first_none (λ r. eqb r.key key) w.records e a.0 a.1))
 
-module _ (s : Sheet) (lost : List ℕ) (key : ℕ) where
+module _ (s : Sheet) (lost : List (Option ℕ)) (key : ℕ) where
   -- no set before set i that commits names the key
   pub record Sought (i : ℕ) : Type 0 where
     pub record_there : applied_to (applied (committed_from s lost i)) key ≡ applied_to (applied (committed_in s lost)) key
@@ -111,15 +91,15 @@ module _ (s : Sheet) (lost : List ℕ) (key : ℕ) where
       let e = from_start s lost in
       record { record_there = ap (λ (c : List WriteSet). applied_to (applied c) key) e; set_there = ap (λ (c : List WriteSet). committed_on c key) e }
 
-  pub sought_end : (i : ℕ) → length s.sets ≤ i → Sought i → AppliesTo s (committed_in s lost) key Nothing
+  pub sought_end : (i : ℕ) → length s.sets ≤ i → Sought i → AppliesTo s (committed_in s lost) key None
   unfolding applied flat applied_to first committed_on
   sought_end i h f =
       let e = from_end s lost i h in
       (sym f.record_there ∙ ap (λ (c : List WriteSet). applied_to (applied c) key) e, sym f.set_there ∙ ap (λ (c : List WriteSet). committed_on c key) e)
 
   module _ (i : ℕ) (h : i < length s.sets) (f : Sought i) where
-    pub sought_found : none_at lost i ≡ true → {r : Record} {m : Mark} → applied_to (set_at s i).records key ≡ some r → m ≡ mark_in s (set_at s i)
-        → AppliesTo s (committed_in s lost) key (Write r m)
+    pub sought_found : none_at lost i ≡ true → {r : Record} {m : Mark} → applied_to (set_at s i).records key ≡ Some r → m ≡ mark_in s (set_at s i)
+        → AppliesTo s (committed_in s lost) key (Some (record { «record» = r; mark = m }))
     unfolding applied flat applied_to committed_on first
     sought_found z e m =
         let c = from_commit s lost i h z in (
@@ -127,7 +107,7 @@ module _ (s : Sheet) (lost : List ℕ) (key : ℕ) where
           (set_at s i, sym f.set_there ∙ ap (λ (c : List WriteSet). committed_on c key) c ∙ rw (names_found (set_at s i) key e), m),
         )
 
-    pub sought_later : none_at lost i ≡ true → applied_to (set_at s i).records key ≡ none → Sought (i + 1)
+    pub sought_later : none_at lost i ≡ true → applied_to (set_at s i).records key ≡ None → Sought (i + 1)
     unfolding applied flat applied_to committed_on first
     sought_later z e =
         let c = from_commit s lost i h z in
@@ -161,7 +141,7 @@ kind_append : (k : ℕ) (xs ys : List Record) → of_kind k (xs ++ ys) ≡ of_ki
 unfolding of_kind count
 kind_append k xs ys = ap length (keep_append (λ r. eqb r.kind k) xs ys) ∙ length-append (keep (λ r. eqb r.kind k) xs) (keep (λ r. eqb r.kind k) ys)
 
-module _ (s : Sheet) (lost : List ℕ) (k : ℕ) where
+module _ (s : Sheet) (lost : List (Option ℕ)) (k : ℕ) where
   -- how many records of the kind these sets apply
   kinds : List WriteSet → ℕ
   kinds c = of_kind k (applied c)
@@ -189,19 +169,7 @@ module _ (s : Sheet) (lost : List ℕ) (k : ℕ) where
     unfolding kinds
     counted_same z = let e = ap kinds (from_other s lost i h z) in omega arith
 
-module _ (k : ℕ) (w : WriteSet) where
-  pub kind_none : 0 ≡ of_kind k (take 0 w.records)
-  unfolding of_kind
-  kind_none = sym (count_none _ no_record w.records)
-
-  pub kind_yes : (j : ℕ) → j < length w.records → (record_at w j).kind ≡ k → of_kind k (take (j + 1) w.records) ≡ of_kind k (take j w.records) + 1
-  unfolding of_kind record_at
-  kind_yes j h e = count_yes _ no_record w.records j h (eq-eqb _ _ e)
-
-  pub kind_no : (j : ℕ) → j < length w.records → ((record_at w j).kind ≡ k → ⊥) → of_kind k (take (j + 1) w.records) ≡ of_kind k (take j w.records)
-  unfolding of_kind record_at
-  kind_no j h e = count_no _ no_record w.records j h (ne_eqb _ _ e)
-
-  pub kind_all : (j : ℕ) → length w.records ≤ j → of_kind k (take j w.records) ≡ of_kind k w.records
-  unfolding of_kind
-  kind_all j h = count_all _ no_record w.records j h
+-- of a set no more than it has records
+pub kinds_few : (w : view.WriteSet) (k : ℕ) → of_kind k (set_of w).records ≤ max_records
+unfolding of_kind
+kinds_few w k = let few = (few_records _ w.i w.sheet.examined w.within).1 in omega (arith, count_fits (λ r. eqb r.kind k) (set_of w).records)

@@ -2,7 +2,7 @@
 use Prim.Native.Nat.{ℕ, ◌+◌, ◌≤◌, ◌<◌}
 use mathlib.Core.Path.{◌≡◌, ◌∙◌}
 use mathlib.Core.Bool.{Bool, true, false}
-use mathlib.Core.Option.{Option, none, some}
+use Rattle.std.specs.Prelude.{Option, None, Some}
 use lib.ListN.{length, drop}
 use Rattle.rules.specs.declared.row.Record.{Record}
 use Rattle.rules.specs.Lists.{first}
@@ -19,9 +19,9 @@ module _ {p : Record → Bool} {w : WriteSet} {o : Option Record} {j : ℕ} (f :
   unfolding record_at
   skips h e = record { rest = f.rest ∙ first_skip p no_record w.records j h e }
 
-  pub stops : j < length w.records → p (record_at w j) ≡ true → o ≡ some (record_at w j)
+  pub stops : j < length w.records → p (record_at w j) ≡ true → o ≡ Some (record_at w j)
   unfolding record_at
   stops h e = f.rest ∙ first_stop p no_record w.records j h e
 
-  pub ends : length w.records ≤ j → o ≡ none
+  pub ends : length w.records ≤ j → o ≡ None
   ends h = f.rest ∙ first_end p no_record w.records j h

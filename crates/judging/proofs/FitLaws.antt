@@ -1,7 +1,7 @@
 -- A set's records held against a register's rows: what a walk over both tells of the first record found wrong.
 use Prim.Native.Nat.{ℕ, ◌<◌}
 use mathlib.Core.Path.{◌≡◌, ◌∙◌, ap}
-use mathlib.Core.Bool.{Bool, true, false, not}
+use mathlib.Core.Bool.{true, false, not}
 use native.Mathlib.Omega.{arith}
 use borrow.Author.Tests.{eqb-true, eq-eqb, ne_eqb}
 use lib.ListN.{length}
@@ -11,7 +11,6 @@ use Rattle.rules.specs.Register.{Register, key_of, sound_register}
 use Rattle.rules.specs.Sheet.{insert}
 use Rattle.rules.specs.Closing.{present, fit_record}
 use Rattle.laws.specs.Tests.{not_true_false}
-use Rattle.laws.specs.Says.{clash}
 use Rattle.laws.specs.ListLaws.{any→, →any}
 use Rattle.laws.specs.Distinct.{tri, less, more, equal}
 use Rattle.registers.specs.RegisterReadings.{row_at, no_row}
@@ -69,14 +68,3 @@ module _ (g : Register) (r : Record) where
 
     pub wrong_nowhere : (r.kind ≡ insert → ⊥) → fit_record g r ≡ false
     wrong_nowhere n = fit_other n ∙ absent_at g r.key at s h
-
--- what a walk over the rows to place `at` tells of a record: its key is there and it is no insert, or it is nowhere
-pub record Walked (g : Register) (r : Record) (at : ℕ) (present : Bool) : Type 0 where
-  pub nowhere : present ≡ false → Nowhere g r.key at
-  pub there : present ≡ true → (at < length g.rows) × ((row_at g at).key ≡ r.key) × (r.kind ≡ insert → ⊥)
-
-pub walked_nowhere : (g : Register) (r : Record) (at : ℕ) {present : Bool} → present ≡ false → Nowhere g r.key at → Walked g r at present
-walked_nowhere g r at e n = record { nowhere = λ q. n; there = λ q. absurd (clash q e) }
-
-pub walked_there : (g : Register) (r : Record) (at : ℕ) {present : Bool} → present ≡ true → at < length g.rows → (row_at g at).key ≡ r.key → (r.kind ≡ insert → ⊥) → Walked g r at present
-walked_there g r at e h k n = record { nowhere = λ q. absurd (clash e q); there = λ q. (h, k, n) }

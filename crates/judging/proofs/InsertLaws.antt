@@ -1,5 +1,5 @@
 -- The first key above another that a set inserts, and that any committed set does.
-use Rattle.std.specs.Prelude.{if◌then◌else◌}
+use Rattle.std.specs.Prelude.{if◌then◌else◌, Option, None, Some}
 use Prim.Native.Nat.{ℕ, ◌+◌, ◌≤◌, ◌<◌}
 use mathlib.Core.Path.{◌≡◌, refl, sym, ◌∙◌, ap}
 use mathlib.Core.Logic.{◌⊎◌, inl, inr, ⊎_elim}
@@ -13,11 +13,8 @@ use Rattle.rules.specs.Sheet.{WriteSet, Sheet, insert, sound_records}
 use Rattle.laws.specs.Distinct.{tri, less, more, equal}
 use Rattle.laws.specs.Says.{clash}
 use Rattle.sheets.specs.SheetReadings.{set_at, record_at}
-use Rattle.judging.specs.declared.key.FirstKey.{FirstKey}
-use Rattle.judging.specs.declared.key.FirstKey.TheVariants.{Key, None}
-use Rattle.judging.specs.Answers.{smaller}
 use Rattle.judging.specs.Tables.{none_at}
-use Rattle.judging.specs.Judged.{Inserts, InsertsIn, IsLeast, LeastAbove}
+use Rattle.judging.specs.Judged.{Inserts, InsertsIn, IsLeast, LeastAbove, smaller}
 use Rattle.judging.proofs.InOrder.{larger_record}
 
 -- ---- in one set
@@ -28,7 +25,7 @@ NoneBefore w after j = (k : ℕ) → k < j → (record_at w k).kind ≡ insert �
 
 module _ (w : WriteSet) (after j : ℕ) (f : NoneBefore w after j) where
   pub insert_here : sound_records w.records ≡ true → j < length w.records → (record_at w j).kind ≡ insert → after < (record_at w j).key
-      → LeastAbove (Inserts w) after (Key (record_at w j).key)
+      → LeastAbove (Inserts w) after (Some (record_at w j).key)
   insert_here s h e a =
       record { above = a; holds = record { number = j; within = h; is_insert_lem = e; keyed = refl }; least = go }
     where
@@ -50,9 +47,9 @@ module _ (w : WriteSet) (after j : ℕ) (f : NoneBefore w after j) where
 
 module _ {P Q R : ℕ → Type 0} (after : ℕ) (of : (k : ℕ) → R k → P k ⊎ Q k) (left : (k : ℕ) → P k → R k) where
   -- P's least is R's, where Q has none
-  least_alone : (a : FirstKey) → LeastAbove P after a → LeastAbove Q after None → LeastAbove R after a
+  least_alone : (a : Option ℕ) → LeastAbove P after a → LeastAbove Q after None → LeastAbove R after a
   least_alone None p q = λ k h r. ⊎_elim (λ x. p k h x) (λ x. q k h x) (of k r)
-  least_alone (Key a) p q =
+  least_alone (Some a) p q =
       record { above = p.above; holds = left a p.holds; least = λ k h r. ⊎_elim (λ x. p.least k h x) (λ x. absurd (q k h x)) (of k r) }
 
   -- or a larger one
@@ -68,19 +65,18 @@ swapped : {P Q R : ℕ → Type 0} → ((k : ℕ) → R k → P k ⊎ Q k) → (
 swapped of k r = ⊎_elim inr inl (of k r)
 
 module _ {P Q R : ℕ → Type 0} (after : ℕ) (of : (k : ℕ) → R k → P k ⊎ Q k) (left : (k : ℕ) → P k → R k) (right : (k : ℕ) → Q k → R k) where
-  smaller-least : (a b : FirstKey) → LeastAbove P after a → LeastAbove Q after b → LeastAbove R after (smaller a b)
-  unfolding smaller
+  smaller-least : (a b : Option ℕ) → LeastAbove P after a → LeastAbove Q after b → LeastAbove R after (smaller a b)
   smaller-least None b p q = least_alone after (swapped of) right b q p
-  smaller-least (Key j) None p q = least_alone after of left (Key j) p q
-  smaller-least (Key j) (Key k) p q = go (ltb k j) refl
+  smaller-least (Some j) None p q = least_alone after of left (Some j) p q
+  smaller-least (Some j) (Some k) p q = go (ltb k j) refl
     where
-      go : (t : Bool) → ltb k j ≡ t → LeastAbove R after (if t then Key k else Key j)
+      go : (t : Bool) → ltb k j ≡ t → LeastAbove R after (if t then Some k else Some j)
       go true e = let l = ltb-true k j e in least_first after (swapped of) right k j (omega arith) q p
       go false e = least_first after of left j k (ltb-false k j e) p q
 
 -- ---- in the sets before set i
 
-module _ (s : Sheet) (lost : List ℕ) (i : ℕ) where
+module _ (s : Sheet) (lost : List (Option ℕ)) (i : ℕ) where
   wider : (k : ℕ) → InsertsIn s lost i k → InsertsIn s lost (i + 1) k
   wider k p = let h = p.within in record { number = p.number; within = omega arith; committed = p.committed; inserts = p.inserts }
 
@@ -97,12 +93,12 @@ module _ (s : Sheet) (lost : List ℕ) (i : ℕ) where
       ]
 
   module _ (after : ℕ) where
-    pub inserts_more : (a b : FirstKey) → none_at lost i ≡ true → LeastAbove (InsertsIn s lost i) after a → LeastAbove (Inserts (set_at s i)) after b
+    pub inserts_more : (a b : Option ℕ) → none_at lost i ≡ true → LeastAbove (InsertsIn s lost i) after a → LeastAbove (Inserts (set_at s i)) after b
         → LeastAbove (InsertsIn s lost (i + 1)) after (smaller a b)
     inserts_more a b z p q = smaller-least after (λ k r. ⊎_elim inl (λ x. inr x.1) (split k r)) wider (here z) a b p q
 
-    pub inserts_same : (a : FirstKey) → none_at lost i ≡ false → LeastAbove (InsertsIn s lost i) after a → LeastAbove (InsertsIn s lost (i + 1)) after a
+    pub inserts_same : (a : Option ℕ) → none_at lost i ≡ false → LeastAbove (InsertsIn s lost i) after a → LeastAbove (InsertsIn s lost (i + 1)) after a
     inserts_same a z p = least_alone after split wider a p (λ k h x. clash x.0 z)
 
-pub inserts_none : (s : Sheet) (lost : List ℕ) (after : ℕ) → LeastAbove (InsertsIn s lost 0) after None
+pub inserts_none : (s : Sheet) (lost : List (Option ℕ)) (after : ℕ) → LeastAbove (InsertsIn s lost 0) after None
 inserts_none s lost after k h r = let l = r.within in omega arith

@@ -1,7 +1,8 @@
 pub mod AppliedLaws
-pub mod CompleteLaws
 pub mod Firsts
 pub mod FitLaws
 pub mod InOrder
 pub mod InsertLaws
+pub mod Numbers
+pub mod Told
 pub mod WinnerLaws

@@ -1,15 +1,11 @@
--- How closing goes by the tables: who owes sets, what the committed sets insert, and what both tables tell.
-use Rattle.std.specs.Prelude.{ℕ, ◌≤◌, ◌<◌, ◌≡◌, Bool, true, not, List, length, eqb}
-use Rattle.words.specs.Words.{Bytes}
+-- How closing goes by the tables: who owes sets, and what the committed sets insert.
+use Rattle.std.specs.Prelude.{ℕ, ◌≤◌, ◌<◌, ◌≡◌, Bool, true, not, List, length, ltb, eqb, if◌then◌else◌, Option, None, Some}
 use Rattle.rules.specs.declared.row.Record.{Record}
 use Rattle.rules.specs.Lists.{◌or◌, count}
-use Rattle.rules.specs.Register.{is_register, register_in}
-use Rattle.rules.specs.Sheet.{WriteSet, Sheet, max_sets, insert, in_roster, is_sheet, sheet_in}
+use Rattle.rules.specs.Sheet.{WriteSet, Sheet, insert, in_roster}
 use Rattle.rules.specs.Closing.{sent}
 use Rattle.sheets.specs.SheetReadings.{set_at, record_at}
-use Rattle.judging.specs.declared.key.FirstKey.{FirstKey}
-use Rattle.judging.specs.declared.key.FirstKey.TheVariants.{Key, None}
-use Rattle.judging.specs.Tables.{none_at, wrong_key, lost_key, Tells}
+use Rattle.judging.specs.Tables.{none_at}
 
 -- master m is outside the roster, or has sent all its sets
 unfoldable pub nothing_owed : Sheet → ℕ → Bool
@@ -27,7 +23,7 @@ pub record Inserts (w : WriteSet) (k : ℕ) : Type 0 where
   pub keyed : (record_at w number).key ≡ k
 
 -- one of the first n sets of a sheet inserts it, and by the table of lost keys that set commits
-pub record InsertsIn (s : Sheet) (lost : List ℕ) (n k : ℕ) : Type 0 where
+pub record InsertsIn (s : Sheet) (lost : List (Option ℕ)) (n k : ℕ) : Type 0 where
   pub number : ℕ
   pub within : number < n
   pub committed : none_at lost number ≡ true
@@ -40,15 +36,12 @@ pub record IsLeast (P : ℕ → Type 0) (after k : ℕ) : Type 0 where
   pub least : (j : ℕ) → after < j → P j → k ≤ j
 
 -- the first key above `after` of which P holds is r
-abbrev pub LeastAbove : (ℕ → Type 0) → ℕ → FirstKey → Type 0
+abbrev pub LeastAbove : (ℕ → Type 0) → ℕ → Option ℕ → Type 0
 LeastAbove P after None = (j : ℕ) → after < j → P j → ⊥
-LeastAbove P after (Key k) = IsLeast P after k
+LeastAbove P after (Some k) = IsLeast P after k
 
--- the bytes are a register and a sheet, and the two tables tell each set's first wrong and first lost key
-pub record Judged (register sheet : Bytes) (wrong lost : List ℕ) : Type 0 where
-  pub is_register_lem : is_register register ≡ true
-  pub is-sheet : is_sheet sheet ≡ true
-  pub wrong_places : length wrong ≡ max_sets
-  pub lost_places : length lost ≡ max_sets
-  pub tells_wrong : Tells (wrong_key (register_in register)) (sheet_in sheet) wrong
-  pub tells_lost : Tells (lost_key (register_in register) (sheet_in sheet)) (sheet_in sheet) lost
+-- the smaller of two keys, if there are two
+abbrev pub smaller : Option ℕ → Option ℕ → Option ℕ
+smaller None b = b
+smaller (Some j) None = Some j
+smaller (Some j) (Some k) = if ltb k j then Some k else Some j

@@ -1,53 +1,34 @@
--- What the tables of a sound sheet say is so: each place gives back the set's first key, and where none is lost the set commits; and
--- which sets commit by a table.
-use Rattle.std.specs.Prelude.{ℕ, ◌<◌, ◌≡◌, Bool, length, get_or}
+-- What the table of lost keys says of a sound sheet is so: where none is lost the set commits; and which sets commit by a table.
+use Rattle.std.specs.Prelude.{ℕ, ◌<◌, ◌≡◌, length, Option, None, Some, is_none}
 use Rattle.std.proofs.Math.Path.{refl, sym, ap}
 use Rattle.std.proofs.Common.{◌∙◌, arith}
 use Rattle.std.proofs.Math.Bool.{true, not}
 use mathlib.Core.List.Memᴰ
 use mathlib.Core.List.{List, Memᴰ}
-use Rattle.std.proofs.Math.Option.{Option, none, some}
-use borrow.Author.Tests.{ne_eqb, not-true, not-false}
+use borrow.Author.Tests.{not-true, not-false}
 use Rattle.rules.specs.declared.row.Record.{Record}
-use Rattle.rules.specs.Lists.{first, keep, up_from}
+use Rattle.rules.specs.Lists.{keep, up_from}
 use Rattle.rules.specs.Register.{Register}
-use Rattle.rules.specs.Sheet.{WriteSet, Sheet, sound_records, sound_sheet}
-use Rattle.rules.specs.Closing.{wins, first_wrong, first_lost, commits, committed}
+use Rattle.rules.specs.Sheet.{WriteSet, Sheet, sound_sheet}
+use Rattle.rules.specs.Closing.{wins, first_lost, commits, committed}
 use Rattle.rules.specs.Becoming.{applied}
 use Rattle.laws.specs.Tests.{not_true_false}
 use Rattle.laws.specs.ListLaws.{first→, first_none, keep→, →keep, up_from→, →up_from}
 use Rattle.laws.specs.Says.{clash}
 use Rattle.laws.specs.SheetLaws.{sound_set→}
 use Rattle.laws.specs.Winners.{sheet_apart, winner→, wins→}
-use Rattle.laws.specs.Commits.{set_sound, set_records, records_rising, fit_record_lem, commits→, →commit, commits_of}
+use Rattle.laws.specs.Commits.{set_sound, fit_record_lem, commits→, →commit, commits_of}
 use Rattle.laws.specs.Applied.{→applied}
 use Rattle.laws.specs.Places.{kept_places}
 use Rattle.sheets.specs.SheetReadings.{set_at, no_set, record_at}
 use Rattle.sheets.specs.SheetMembers.{set_in_lem, record_in_lem}
-use Rattle.judging.specs.Answers.{first_key}
-use Rattle.judging.specs.Tables.{in_table, from_table, is_none, none_at, committed_in, wrong_key, lost_key, Tells}
-
--- keys of sound records are at least 1, so that a table gives back the key of the first one which passes
-back : (p : Record → Bool) (w : WriteSet) → sound_records w.records ≡ true → from_table (in_table (first_key (first p w.records))) ≡ first_key (first p w.records)
-unfolding first_key from_table
-back p w e = go (first p w.records) refl
-  where
-    go : (o : Option Record) → first p w.records ≡ o → from_table (in_table (first_key o)) ≡ first_key o
-    go none q = refl
-    go (some r) q = let h : 0 < r.key = (records_rising w.records e).1 r (first→ p w.records q).0 in rw (ne_eqb r.key 0 (omega arith))
-
--- ---- the first wrong key
-
-module _ (g : Register) (s : Sheet) (wrong : List ℕ) (sound : sound_sheet s ≡ true) (t : Tells (wrong_key g) s wrong) (i : ℕ) (h : i < length s.sets) where
-  pub wrong_told : from_table (get_or wrong i 0) ≡ wrong_key g (set_at s i)
-  unfolding wrong_key first_wrong
-  wrong_told = ap from_table (t i h) ∙ back _ (set_at s i) (set_records s (set_at s i) sound (set_in_lem s i h))
+use Rattle.judging.specs.Tables.{first_key, none_at, committed_in, lost_key, Tells}
 
 -- ---- no lost key
 
 module _ (g : Register) (s : Sheet) (w : WriteSet) (sound : sound_sheet s ≡ true) (m : Memᴰ w s.sets) where
   -- a set that wins all its keys is fit, since it wins one
-  none_lost : first_lost g s w ≡ none → commits g s w ≡ true
+  none_lost : first_lost g s w ≡ None → commits g s w ≡ true
   unfolding first_lost
   none_lost p =
       let won : (r : Record) → Memᴰ r w.records → wins g s w r.key ≡ true = λ r k. not-false _ (first_none (λ r. not (wins g s w r.key)) w.records p r k) in
@@ -58,39 +39,35 @@ module _ (g : Register) (s : Sheet) (w : WriteSet) (sound : sound_sheet s ≡ tr
       commits_of g s w (→commit g s w (λ r i. (fit_record_lem g w f r i, won r i)))
 
   lost_commits : is_none (lost_key g s w) ≡ commits g s w
-  unfolding lost_key first_key first_lost
+  unfolding lost_key first_lost
   lost_commits = go (first_lost g s w) refl
     where
       go : (o : Option Record) → first_lost g s w ≡ o → is_none (first_key o) ≡ commits g s w
-      go none p = sym (none_lost p)
-      go (some r) p =
+      go None p = sym (none_lost p)
+      go (Some r) p =
           let f = first→ (λ r. not (wins g s w r.key)) w.records p in
           sym (not_true_false (λ e. clash (commits→ g s w e r f.0).1 (not-true _ f.1)))
 
-module _ (g : Register) (s : Sheet) (lost : List ℕ) (sound : sound_sheet s ≡ true) (t : Tells (lost_key g s) s lost) (i : ℕ) (h : i < length s.sets) where
-  pub lost_told : from_table (get_or lost i 0) ≡ lost_key g s (set_at s i)
-  unfolding lost_key first_lost
-  lost_told = ap from_table (t i h) ∙ back _ (set_at s i) (set_records s (set_at s i) sound (set_in_lem s i h))
-
+module _ (g : Register) (s : Sheet) (lost : List (Option ℕ)) (sound : sound_sheet s ≡ true) (t : Tells (lost_key g s) s lost) (i : ℕ) (h : i < length s.sets) where
   pub commit_told : none_at lost i ≡ commits g s (set_at s i)
   unfolding none_at
-  commit_told = ap is_none lost_told ∙ lost_commits g s (set_at s i) sound (set_in_lem s i h)
+  commit_told = ap is_none (t i h) ∙ lost_commits g s (set_at s i) sound (set_in_lem s i h)
 
 -- THE SETS THAT COMMIT BY THE TABLE OF LOST KEYS ARE THOSE THAT CLOSING COMMITS
-pub table_commits : (g : Register) (s : Sheet) (lost : List ℕ) → sound_sheet s ≡ true → Tells (lost_key g s) s lost → committed_in s lost ≡ committed g s
+pub table_commits : (g : Register) (s : Sheet) (lost : List (Option ℕ)) → sound_sheet s ≡ true → Tells (lost_key g s) s lost → committed_in s lost ≡ committed g s
 unfolding committed_in committed set_at
 table_commits g s lost sound t = kept_places no_set (commits g s) (none_at lost) s.sets (commit_told g s lost sound t)
 
 -- ---- the sets that commit by a table, by their places
 
 -- a set stands at a place that has no key
-pub record CommitsAt (s : Sheet) (lost : List ℕ) (w : WriteSet) : Type 0 where
+pub record CommitsAt (s : Sheet) (lost : List (Option ℕ)) (w : WriteSet) : Type 0 where
   pub number : ℕ
   pub within : number < length s.sets
   pub no_key : none_at lost number ≡ true
   pub is_set : set_at s number ≡ w
 
-module _ (s : Sheet) (lost : List ℕ) where
+module _ (s : Sheet) (lost : List (Option ℕ)) where
   pub committed_in→ : (w : WriteSet) → Memᴰ w (committed_in s lost) → CommitsAt s lost w
   unfolding committed_in
   committed_in→ w m =

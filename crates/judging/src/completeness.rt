@@ -1,58 +1,34 @@
 // Whether a sheet is complete: every master of the roster has a notice, and as many sets as it says.
-ghost use Rattle.std.specs.Prelude.{◌≡◌, true, ◌<◌};
-ghost use Rattle.rules.specs.Sheet.{is_sheet, sheet_in, sets_of};
+ghost use Rattle.std.specs.Prelude.{◌≡◌, ◌<◌};
+ghost use Rattle.rules.specs.Sheet.{sets_of};
 ghost use Rattle.rules.specs.Closing.{complete};
 ghost use Rattle.sheets.specs.SheetReadings.{master_count};
+ghost use Rattle.sheets.specs.Views.{sheet_of};
 ghost use Rattle.judging.specs.Judged.{nothing_owed};
 
-use forms::{MASTERS, in_roster, notice, set_count, set_csn};
+use forms::{MASTERS, Sheet};
 use rules::NO_NOTICE;
 
 // How many of the sheet's sets are master m's.
-fn sets_by(sheet: &[u8], m: usize) -> usize
-    requires { is_sheet sheet.now ≡ true }
-    ensures { result ≡ sets_of m (sheet_in sheet.now).sets }
+fn sets_by(sheet: &Sheet, m: usize) -> usize
+    ensures { result ≡ sets_of m (sheet_of sheet.now).sets }
 {
-    let n = set_count(sheet);
-    let mut count: usize = 0;
-    let mut i: usize = 0;
-    while i < n {
-        if (set_csn(sheet, i) % 16) as usize == m {
-            count += 1;
-        }
-        i += 1;
-    }
-    count
+    (0..sheet.set_count())
+        .filter(|&i| (sheet.set(i).csn() % 16) as usize == m)
+        .count()
 }
 
 // Whether master m is outside the roster, or has sent all its sets.
-fn owes_nothing(sheet: &[u8], m: usize) -> bool
-    requires { (is_sheet sheet.now ≡ true) × (m < master_count) }
-    ensures { result ≡ nothing_owed (sheet_in sheet.now) m }
+fn owes_nothing(sheet: &Sheet, m: usize) -> bool
+    requires { m < master_count }
+    ensures { result ≡ nothing_owed (sheet_of sheet.now) m }
 {
-    if !in_roster(sheet, m as u32) {
-        return true;
-    }
-    let said = notice(sheet, m);
-    if said == NO_NOTICE {
-        return false;
-    }
-    if sets_by(sheet, m) < said as usize {
-        return false;
-    }
-    true
+    let said = sheet.notice(m);
+    !sheet.in_roster(m as u32) || said != NO_NOTICE && usize::from(said) <= sets_by(sheet, m)
 }
 
-pub fn complete(sheet: &[u8]) -> bool
-    requires { is_sheet sheet.now ≡ true }
-    ensures { result ≡ complete (sheet_in sheet.now) }
+pub fn complete(sheet: &Sheet) -> bool
+    ensures { result ≡ complete (sheet_of sheet.now) }
 {
-    let mut m: usize = 0;
-    while m < MASTERS {
-        if !owes_nothing(sheet, m) {
-            return false;
-        }
-        m += 1;
-    }
-    true
+    (0..MASTERS).all(|m| owes_nothing(sheet, m))
 }

@@ -1,66 +1,63 @@
 // Which sets are fit: a table of the first key found wrong in each set.
-ghost use Rattle.std.specs.Prelude.{◌≡◌, true, ◌<◌, length};
-ghost use Rattle.rules.specs.Register.{is_register, register_in};
-ghost use Rattle.rules.specs.Sheet.{max_sets, is_sheet, sheet_in};
-ghost use Rattle.sheets.specs.SheetReadings.{set_at};
-ghost use Rattle.judging.specs.Tables.{wrong_key, Tells};
+ghost use Rattle.std.specs.Prelude.{◌≡◌};
+ghost use Rattle.registers.specs.Views.{register_of};
+ghost use Rattle.sheets.specs.Views.{sheet_of, set_of};
+ghost use Rattle.judging.specs.Tables.{wrong_key, Tells, HasKeyOf};
 
-use crate::key::FirstKey;
-use crate::table::in_table;
-use forms::{record, record_count, row_count, row_key, set_count};
-use rules::Record;
+use forms::{Register, Sheet, WriteSet};
+use rules::{Kind, MAX_SETS};
 
-// The key of the first record of set i that the register does not bear. Keys ascend in both, so the rows that are passed for one
-// record are passed for all.
-fn wrong_key(register: &[u8], sheet: &[u8], i: usize) -> FirstKey
-    requires { (is_register register.now ≡ true) × (is_sheet sheet.now ≡ true) × (i < length (sheet_in sheet.now).sets) }
-    ensures { result ≡ wrong_key (register_in register.now) (set_at (sheet_in sheet.now) i) }
+// For each set of a sheet a key of its own, if there is one; behind the last set there is none.
+pub type Table = [Option<u32>; MAX_SETS];
+
+// The key of the first record of the set that the register does not bear. Keys ascend in both, so the rows that are passed for one
+// record are passed for all: their index goes on from record to record, and is no `for`'s.
+fn wrong_key(register: &Register, set: &WriteSet) -> Option<u32>
+    ensures { result ≡ wrong_key (register_of register.now) (set_of set.now) }
 {
-    let rows = row_count(register);
-    let records = record_count(sheet, i);
-    let mut wrong = FirstKey::None;
+    let rows = register.row_count();
+    let mut wrong = None;
     let mut at: usize = 0;
-    let mut j: usize = 0;
-    'records: while j < records {
-        let r = record(sheet, i, j);
-        let key = r.key;
-        let kind = r.kind;
-        let mut present = false;
+    'records: for j in 0..set.record_count() {
+        let record = set.record(j);
         'rows: while at < rows {
-            let row = row_key(register, at);
-            if key < row {
+            let row = register.row_key(at);
+            if record.key < row {
                 break 'rows;
             }
-            if key == row {
-                if kind == Record::INSERT {
-                    wrong = FirstKey::Key(key);
+            if record.key == row {
+                if record.is(Kind::Insert) {
+                    wrong = Some(record.key);
                     break 'records;
                 }
-                present = true;
-                break 'rows;
+                continue 'records;
             }
             at += 1;
         }
-        if !present {
-            if kind != Record::INSERT {
-                wrong = FirstKey::Key(key);
-                break 'records;
-            }
+        if !record.is(Kind::Insert) {
+            wrong = Some(record.key);
+            break 'records;
         }
-        j += 1;
     }
     wrong
 }
 
-// The table of wrong keys.
-pub fn find_wrong(register: &[u8], sheet: &[u8], wrong: &mut [u32])
-    requires { (is_register register.now ≡ true) × (is_sheet sheet.now ≡ true) × (length wrong.old ≡ max_sets) }
-    ensures { (length wrong.new ≡ max_sets) × Tells (wrong_key (register_in register.now)) (sheet_in sheet.now) wrong.new }
+// The table of the keys that a function gives for each set.
+#[tactic(auto, using(sheets::specs::SheetSizes::few_sets))]
+pub fn table<F: Fn(&WriteSet) -> Option<u32>>(sheet: &Sheet, key_of: F) -> Table
+    requires { F.IsAlwaysCallable key_of }
+    ensures { HasKeyOf F.Fn key_of (sheet_of sheet.now) result }
 {
-    let n = set_count(sheet);
-    let mut i: usize = 0;
-    while i < n {
-        wrong[i] = in_table(wrong_key(register, sheet, i));
-        i += 1;
+    let mut table = [None; MAX_SETS];
+    for i in 0..sheet.set_count() {
+        table[i] = key_of(&sheet.set(i));
     }
+    table
+}
+
+// The table of wrong keys.
+pub fn find_wrong(register: &Register, sheet: &Sheet) -> Table
+    ensures { Tells (wrong_key (register_of register.now)) (sheet_of sheet.now) result }
+{
+    table(sheet, |set| wrong_key(register, set))
 }

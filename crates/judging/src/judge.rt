@@ -1,95 +1,114 @@
 // Who wins a key, and the first key that each set loses. All claims of fit sets count, also of those that lose elsewhere.
-ghost use Rattle.std.specs.Prelude.{◌≡◌, true, ◌<◌, length};
-ghost use Rattle.rules.specs.Register.{Register};
-ghost use Rattle.rules.specs.Sheet.{max_sets, is_sheet, sheet_in};
-ghost use Rattle.rules.specs.Closing.{winner, mark_in};
-ghost use Rattle.sheets.specs.SheetReadings.{set_at};
-ghost use Rattle.judging.specs.Answers.{winner_of, won_by};
+ghost use Rattle.std.specs.Prelude.{◌≡◌, ◌<◌, length};
+ghost use Rattle.rules.specs.Closing.{winner};
+ghost use Rattle.registers.specs.Views.{register_of};
+ghost use Rattle.sheets.specs.Views.{sheet_of, set_of};
+ghost use Rattle.judging.specs.Answers.{winner_of, earlier_of, won_by};
 ghost use Rattle.judging.specs.Tables.{claims_by, wrong_key, lost_key, Tells};
 
-use crate::key::FirstKey;
-use crate::lead::{Winner, earlier_of};
-use crate::recorded::{Recorded, record_of};
-use crate::table::{in_table, none_at};
-use forms::{epoch, record_count, record_key, set_count, set_csn, set_sen};
+use crate::fit::{Table, find_wrong, table};
+use crate::recorded::{mark_of, record_of};
+use forms::{Register, Sheet, WriteSet};
 use rules::Mark;
 
-// The mark that set i gives.
-pub fn mark_of(sheet: &[u8], i: usize) -> Mark
-    requires { (is_sheet sheet.now ≡ true) × (i < length (sheet_in sheet.now).sets) }
-    ensures { result ≡ mark_in (sheet_in sheet.now) (set_at (sheet_in sheet.now) i) }
+// Who leads once the set of a mark claims the key too: the earlier of two marks.
+fn earlier_of(lead: Option<Mark>, mark: Mark) -> Option<Mark>
+    ensures { result ≡ earlier_of lead mark }
 {
-    Mark::new(epoch(sheet), set_sen(sheet, i), set_csn(sheet, i))
-}
-
-// Whether set i claims the key: it is fit, and names it.
-fn claims(sheet: &[u8], wrong: &[u32], i: usize, key: u32) -> bool
-    requires { (is_sheet sheet.now ≡ true) × (length wrong.now ≡ max_sets) × (i < length (sheet_in sheet.now).sets) }
-    ensures { result ≡ claims_by (sheet_in sheet.now) wrong.now i key }
-{
-    if !none_at(wrong, i) {
-        return false;
+    match lead {
+        Some(first) => Some(first.earlier(mark)),
+        None => Some(mark),
     }
-    match record_of(sheet, i, key) {
-        Recorded::As(_) => true,
-        Recorded::Nowhere => false,
-    }
-}
-
-// The mark of the set that wins the key, if a fit set claims it.
-pub fn winner(sheet: &[u8], wrong: &[u32], key: u32) -> Winner
-    requires { (is_sheet sheet.now ≡ true) × (length wrong.now ≡ max_sets) }
-    ensures { (g : Register) → Tells (wrong_key g) (sheet_in sheet.now) wrong.now → result ≡ winner_of (sheet_in sheet.now) (winner g (sheet_in sheet.now) key) }
-{
-    let n = set_count(sheet);
-    let mut lead = Winner::Nobody;
-    let mut i: usize = 0;
-    while i < n {
-        if claims(sheet, wrong, i, key) {
-            lead = earlier_of(lead, mark_of(sheet, i));
-        }
-        i += 1;
-    }
-    lead
 }
 
 // Whether the winner is the set of this csn: no two sets of a sheet share one.
-fn won_by(winner: Winner, csn: u64) -> bool
+fn won_by(winner: Option<Mark>, csn: u64) -> bool
     ensures { result ≡ won_by winner csn }
 {
     match winner {
-        Winner::By(mark) => mark.csn == csn,
-        Winner::Nobody => false,
+        Some(mark) => mark.csn == csn,
+        None => false,
     }
 }
 
-// The first key of set i that it does not win.
-fn lost_key(sheet: &[u8], wrong: &[u32], i: usize) -> FirstKey
-    requires { (is_sheet sheet.now ≡ true) × (length wrong.now ≡ max_sets) × (i < length (sheet_in sheet.now).sets) }
-    ensures { (g : Register) → Tells (wrong_key g) (sheet_in sheet.now) wrong.now → result ≡ lost_key g (sheet_in sheet.now) (set_at (sheet_in sheet.now) i) }
-{
-    let n = record_count(sheet, i);
-    let csn = set_csn(sheet, i);
-    let mut j: usize = 0;
-    while j < n {
-        let key = record_key(sheet, i, j);
-        if !won_by(winner(sheet, wrong, key), csn) {
-            return FirstKey::Key(key);
+// A register and a sheet, and the first key that is found wrong in each set. A set with none is fit, and claims its keys.
+#[derive(Clone, Copy)]
+struct Claims<'a> {
+    register: Register<'a>,
+    sheet: Sheet<'a>,
+    wrong: Table,
+    ghost told: { Tells (wrong_key (register_of register)) (sheet_of sheet) wrong },
+}
+
+impl<'a> Claims<'a> {
+    // Whether set i claims the key: it is fit, and names it.
+    #[tactic(auto, using(sheets::specs::SheetSizes::few_sets))]
+    fn claims(&self, i: usize, key: u32) -> bool
+        requires { i < length (sheet_of self.now.sheet).sets }
+        ensures { result ≡ claims_by (sheet_of self.now.sheet) self.now.wrong i key }
+    {
+        let wrong = self.wrong[i];
+        wrong.is_none() && record_of(&self.sheet.set(i), key).is_some()
+    }
+
+    // The mark of the set that wins the key, if a fit set claims it.
+    fn winner(&self, key: u32) -> Option<Mark>
+        ensures { result ≡ winner_of (sheet_of self.now.sheet) (winner (register_of self.now.register) (sheet_of self.now.sheet) key) }
+    {
+        let mut lead = None;
+        for i in 0..self.sheet.set_count() {
+            if self.claims(i, key) {
+                lead = earlier_of(lead, mark_of(&self.sheet, &self.sheet.set(i)));
+            }
         }
-        j += 1;
+        lead
     }
-    FirstKey::None
+
+    // The first key of a set that it does not win.
+    fn lost_key(&self, set: &WriteSet) -> Option<u32>
+        ensures { result ≡ lost_key (register_of self.now.register) (sheet_of self.now.sheet) (set_of set.now) }
+    {
+        (0..set.record_count())
+            .map(|j| set.record_key(j))
+            .find(|&key| !won_by(self.winner(key), set.csn()))
+    }
+
+    // The table of lost keys. An unfit set wins nothing, so just those that commit have none.
+    fn find_lost(&self) -> Table
+        ensures { Tells (lost_key (register_of self.now.register) (sheet_of self.now.sheet)) (sheet_of self.now.sheet) result }
+    {
+        table(&self.sheet, |set| self.lost_key(set))
+    }
 }
 
-// The table of lost keys. An unfit set wins nothing, so just those that commit have none.
-pub fn find_lost(sheet: &[u8], wrong: &[u32], lost: &mut [u32])
-    requires { (is_sheet sheet.now ≡ true) × (length wrong.now ≡ max_sets) × (length lost.old ≡ max_sets) }
-    ensures { (length lost.new ≡ max_sets) × ((g : Register) → Tells (wrong_key g) (sheet_in sheet.now) wrong.now → Tells (lost_key g (sheet_in sheet.now)) (sheet_in sheet.now) lost.new) }
-{
-    let n = set_count(sheet);
-    let mut i: usize = 0;
-    while i < n {
-        lost[i] = in_table(lost_key(sheet, wrong, i));
-        i += 1;
+// A register and a sheet, with both tables: what is found wrong in each set, and what each set loses.
+#[derive(Clone, Copy)]
+pub struct Judged<'a> {
+    pub register: Register<'a>,
+    pub sheet: Sheet<'a>,
+    pub wrong: Table,
+    pub lost: Table,
+    ghost tells_wrong: { Tells (wrong_key (register_of register)) (sheet_of sheet) wrong },
+    ghost tells_lost: { Tells (lost_key (register_of register) (sheet_of sheet)) (sheet_of sheet) lost },
+}
+
+impl<'a> Judged<'a> {
+    pub fn new(register: Register<'a>, sheet: Sheet<'a>) -> Judged<'a>
+        ensures register { register_of result.register ≡ register_of register.entry }
+        ensures sheet { sheet_of result.sheet ≡ sheet_of sheet.entry }
+    {
+        let wrong = find_wrong(&register, &sheet);
+        let claims = Claims {
+            register,
+            sheet,
+            wrong,
+        };
+        let lost = claims.find_lost();
+        Judged {
+            register,
+            sheet,
+            wrong,
+            lost,
+        }
     }
 }

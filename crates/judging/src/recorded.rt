@@ -1,32 +1,24 @@
-// How a set records a key, if it does.
-ghost use Rattle.std.specs.Prelude.{◌≡◌, true, ◌<◌, length};
-ghost use Rattle.rules.specs.Sheet.{is_sheet, sheet_in};
+// How a set records a key, if it does, and the mark that it gives.
+ghost use Rattle.std.specs.Prelude.{◌≡◌};
+ghost use Rattle.rules.specs.Closing.{mark_in};
 ghost use Rattle.rules.specs.Becoming.{applied_to};
-ghost use Rattle.sheets.specs.SheetReadings.{set_at};
-ghost use Rattle.judging.specs.Answers.{recorded};
+ghost use Rattle.sheets.specs.Views.{sheet_of, set_of};
 
-use forms::{record, record_count};
-use rules::Record;
+use forms::{Sheet, WriteSet};
+use rules::{Mark, Record};
 
-#[derive(Clone, Copy)]
-pub enum Recorded {
-    As(Record),
-    Nowhere,
+// The record that the set has for the key.
+pub fn record_of(set: &WriteSet, key: u32) -> Option<Record>
+    ensures { result ≡ applied_to (set_of set.now).records key }
+{
+    (0..set.record_count())
+        .map(|j| set.record(j))
+        .find(|record| record.key == key)
 }
 
-// The record that set i has for the key.
-pub fn record_of(sheet: &[u8], i: usize, key: u32) -> Recorded
-    requires { (is_sheet sheet.now ≡ true) × (i < length (sheet_in sheet.now).sets) }
-    ensures { result ≡ recorded (applied_to (set_at (sheet_in sheet.now) i).records key) }
+// The mark that a set of the sheet gives.
+pub fn mark_of(sheet: &Sheet, set: &WriteSet) -> Mark
+    ensures { result ≡ mark_in (sheet_of sheet.now) (set_of set.now) }
 {
-    let n = record_count(sheet, i);
-    let mut j: usize = 0;
-    while j < n {
-        let r = record(sheet, i, j);
-        if r.key == key {
-            return Recorded::As(r);
-        }
-        j += 1;
-    }
-    Recorded::Nowhere
+    Mark::new(sheet.epoch(), set.sen(), set.csn())
 }

@@ -2,8 +2,7 @@
 -- long enough, is not refused.
 use Rattle.std.specs.Prelude.{ℕ, ◌≡◌, leb}
 use Rattle.std.proofs.Math.Path.{refl}
-use Rattle.std.proofs.Common.{sym, ◌∙◌, ap, ap₂}
-use Rattle.std.proofs.Math.Option.{some}
+use Rattle.std.proofs.Common.{sym, ◌∙◌, ap, ap₂, Some}
 use Rattle.words.specs.Words.{Bytes}
 use Rattle.rules.specs.Numbers.{master_of}
 use Rattle.rules.specs.Sheet.{sheet_bytes}
@@ -23,7 +22,7 @@ goes e r k (opened f q room) h =
 goes e r k (put t f sen csn b room) h =
     let w = goes e r k t h.0 in
     let o = h.2.well_formed_lem in
-    let c : offered_set f sen csn.value b ≡ some o.0 = ap (λ (g : ℕ). offered_set g sen csn.value b) h.1 ∙ o.1 in (
+    let c : offered_set f sen csn.value b ≡ Some o.0 = ap (λ (g : ℕ). offered_set g sen csn.value b) h.1 ∙ o.1 in (
       _,
       ap (λ (z : Outcome Bytes). and_then z (λ s. put_outcome s f sen csn.value b room)) w.1
           ∙ one_more e r t w.0 w.1 h.0 (offered_set f sen csn.value b) o.0 f (master_of csn.value) room c h.1 h.2.in_roster_lem h.3,
@@ -31,7 +30,7 @@ goes e r k (put t f sen csn b room) h =
 goes e r k (notice t f m n room) h =
     let w = goes e r k t h.0 in
     let o = h.2.well_formed_lem in
-    let c : offered_notice f m n ≡ some o.0 = ap (λ (g : ℕ). offered_notice g m n) h.1 ∙ o.1 in (
+    let c : offered_notice f m n ≡ Some o.0 = ap (λ (g : ℕ). offered_notice g m n) h.1 ∙ o.1 in (
       _,
       ap (λ (z : Outcome Bytes). and_then z (λ s. notice_outcome s f m n room)) w.1
           ∙ one_more e r t w.0 w.1 h.0 (offered_notice f m n) o.0 f m room c h.1 h.2.in_roster_lem h.3,

@@ -1,10 +1,9 @@
 -- The applied records are those of the committed sets, and no two of them have one key, whatever chose the sets.
-use Rattle.std.specs.Prelude.{ℕ, ◌<◌, ◌≡◌, refl, Bool, true, false, eqb, if◌then◌else◌}
+use Rattle.std.specs.Prelude.{ℕ, ◌<◌, ◌≡◌, refl, Bool, true, false, eqb, if◌then◌else◌, Option, None, Some}
 use Rattle.std.proofs.Common.{sym, ◌∙◌, ap, ⊎_elim, arith, eqb-true, eq-eqb}
 use Rattle.std.proofs.lemmas.Bool.{false≢true}
 use mathlib.Core.List.Memᴰ
 use mathlib.Core.List.{List, [], ◌∷◌, ◌++◌, Memᴰ}
-use Rattle.std.proofs.Math.Option.{Option, none, some}
 use Rattle.rules.specs.declared.row.Record.{Record}
 use Rattle.rules.specs.Lists.{keep, first, flat}
 use Rattle.rules.specs.Register.{Register}
@@ -102,16 +101,16 @@ module _ (g : Register) (s : Sheet) (c : List WriteSet) (h : Choice g s c) where
 
 -- ---- the applied record of a key
 
-pub applied_to→ : (rs : List Record) (k : ℕ) (r : Record) → applied_to rs k ≡ some r → Memᴰ r rs × (r.key ≡ k)
+pub applied_to→ : (rs : List Record) (k : ℕ) (r : Record) → applied_to rs k ≡ Some r → Memᴰ r rs × (r.key ≡ k)
 unfolding applied_to
 applied_to→ rs k r e = let f = first→ (λ q. eqb q.key k) rs e in (f.0, eqb-true r.key k f.1)
 
-pub applied_to_none : (rs : List Record) (k : ℕ) → ((r : Record) → Memᴰ r rs → r.key ≡ k → ⊥) → applied_to rs k ≡ none
+pub applied_to_none : (rs : List Record) (k : ℕ) → ((r : Record) → Memᴰ r rs → r.key ≡ k → ⊥) → applied_to rs k ≡ None
 applied_to_none rs k h = go (applied_to rs k) refl
   where
-    go : (o : Option Record) → applied_to rs k ≡ o → o ≡ none
-    go none e = refl
-    go (some r) e = let f = applied_to→ rs k r e in absurd (h r f.0 f.1)
+    go : (o : Option Record) → applied_to rs k ≡ o → o ≡ None
+    go None e = refl
+    go (Some r) e = let f = applied_to→ rs k r e in absurd (h r f.0 f.1)
 
 each_one : {rs : List Record} {p q : Record} → OneEach rs → Memᴰ p rs → Memᴰ q rs → p.key ≡ q.key → p ≡ q
 each_one none_left m n c = absurd (Memᴰ.not-nil m)
@@ -121,10 +120,10 @@ each_one {p} {q} (one_more {r} f s) m n c =
     (λ i. ⊎_elim (λ j. absurd (f p i (c ∙ ap record_key j))) (λ j. each_one s i j c) (Memᴰ.cases_cons n))
     (Memᴰ.cases_cons m)
 
-pub applied_to_is : (rs : List Record) (r : Record) → OneEach rs → Memᴰ r rs → applied_to rs r.key ≡ some r
+pub applied_to_is : (rs : List Record) (r : Record) → OneEach rs → Memᴰ r rs → applied_to rs r.key ≡ Some r
 unfolding applied_to
 applied_to_is rs r h m = go (first (λ q. eqb q.key r.key) rs) refl
   where
-    go : (o : Option Record) → first (λ q. eqb q.key r.key) rs ≡ o → o ≡ some r
-    go none e = absurd (false≢true (sym (first_none (λ q. eqb q.key r.key) rs e r m) ∙ eq-eqb r.key r.key refl))
-    go (some q) e = let f = first→ (λ q. eqb q.key r.key) rs e in ap some (each_one h f.0 m (eqb-true q.key r.key f.1))
+    go : (o : Option Record) → first (λ q. eqb q.key r.key) rs ≡ o → o ≡ Some r
+    go None e = absurd (false≢true (sym (first_none (λ q. eqb q.key r.key) rs e r m) ∙ eq-eqb r.key r.key refl))
+    go (Some q) e = let f = first→ (λ q. eqb q.key r.key) rs e in ap Some (each_one h f.0 m (eqb-true q.key r.key f.1))

@@ -1,10 +1,9 @@
 -- WHAT IS KNOWN OF THE COMMITTED SETS, WHATEVER CHOSE THEM: they are sets of the sheet in csn order, fit, and no two of them name one
 -- key. What rows become is proved from this alone; that the sets which closing commits are so chosen is proved here.
-use Rattle.std.specs.Prelude.{ℕ, ◌≡◌, refl, true}
+use Rattle.std.specs.Prelude.{ℕ, ◌≡◌, refl, true, Option, None, Some}
 use Rattle.std.proofs.Common.{sym, ◌∙◌, ap}
 use Rattle.std.proofs.lemmas.Bool.{false≢true}
 use mathlib.Core.List.{List, Memᴰ}
-use Rattle.std.proofs.Math.Option.{Option, none, some}
 use Rattle.rules.specs.Lists.{first}
 use Rattle.rules.specs.Register.{Register}
 use Rattle.rules.specs.Sheet.{WriteSet, csn_of, Sheet, sound_sheet}
@@ -27,28 +26,28 @@ pub record Choice (g : Register) (s : Sheet) (c : List WriteSet) : Type 0 where
 abbrev pub Unnamed : List WriteSet → ℕ → Type 0
 Unnamed c k = (w : WriteSet) → Memᴰ w c → names w k ≡ true → ⊥
 
-pub committed_on→ : (c : List WriteSet) (k : ℕ) (w : WriteSet) → committed_on c k ≡ some w → Memᴰ w c × (names w k ≡ true)
+pub committed_on→ : (c : List WriteSet) (k : ℕ) (w : WriteSet) → committed_on c k ≡ Some w → Memᴰ w c × (names w k ≡ true)
 unfolding committed_on
 committed_on→ c k w e = first→ (λ v. names v k) c e
 
-pub committed_on_none→ : (c : List WriteSet) (k : ℕ) → committed_on c k ≡ none → Unnamed c k
+pub committed_on_none→ : (c : List WriteSet) (k : ℕ) → committed_on c k ≡ None → Unnamed c k
 unfolding committed_on
 committed_on_none→ c k e w m n = false≢true (sym (first_none (λ v. names v k) c e w m) ∙ n)
 
-pub →committed_on_none : (c : List WriteSet) (k : ℕ) → Unnamed c k → committed_on c k ≡ none
+pub →committed_on_none : (c : List WriteSet) (k : ℕ) → Unnamed c k → committed_on c k ≡ None
 →committed_on_none c k u = go (committed_on c k) refl
   where
-    go : (o : Option WriteSet) → committed_on c k ≡ o → o ≡ none
-    go none e = refl
-    go (some w) e = let f = committed_on→ c k w e in absurd (u w f.0 f.1)
+    go : (o : Option WriteSet) → committed_on c k ≡ o → o ≡ None
+    go None e = refl
+    go (Some w) e = let f = committed_on→ c k w e in absurd (u w f.0 f.1)
 
-pub committed_on_is : (g : Register) (s : Sheet) (c : List WriteSet) → Choice g s c → (k : ℕ) (w : WriteSet) → Memᴰ w c → names w k ≡ true → committed_on c k ≡ some w
+pub committed_on_is : (g : Register) (s : Sheet) (c : List WriteSet) → Choice g s c → (k : ℕ) (w : WriteSet) → Memᴰ w c → names w k ≡ true → committed_on c k ≡ Some w
 unfolding committed_on
 committed_on_is g s c h k w m n = go (first (λ v. names v k) c) refl
   where
-    go : (o : Option WriteSet) → first (λ v. names v k) c ≡ o → o ≡ some w
-    go none e = absurd (false≢true (sym (first_none (λ v. names v k) c e w m) ∙ n))
-    go (some v) e = let f = first→ (λ v. names v k) c e in ap some (h.one_on_a_key v w k f.0 m f.1 n)
+    go : (o : Option WriteSet) → first (λ v. names v k) c ≡ o → o ≡ Some w
+    go None e = absurd (false≢true (sym (first_none (λ v. names v k) c e w m) ∙ n))
+    go (Some v) e = let f = first→ (λ v. names v k) c e in ap Some (h.one_on_a_key v w k f.0 m f.1 n)
 
 -- ---- the sets that closing commits
 

@@ -1,19 +1,17 @@
 -- DEMAND 2 asked of any closing, over what it answers and leaves in its buffers: the verdicts and the next register of document 01's rule,
 -- with L1's marks, where nothing refuses, else the foremost refusal that applies. It asks just what `close` promises, and the paper's closing
 -- meets it.
-use Rattle.std.specs.Prelude.{ℕ, ◌+◌, ◌≤◌, ◌≡◌, refl, true, false, not, length, ltb, eqb}
+use Rattle.std.specs.Prelude.{ℕ, ◌+◌, ◌≤◌, ◌≡◌, refl, true, false, not, length, ltb, eqb, Option, None, Some, Err}
 use Rattle.std.proofs.Common.{sym, subst, ◌∙◌, ap, arith, eqb-true, eq-eqb, ne_eqb, ltb-false, le-ltb}
-use Rattle.std.proofs.Math.Option.{Option, none, some}
 use Rattle.std.proofs.lemmas.Bool.{not-false}
 use Rattle.words.specs.Words.{Bytes}
 use Rattle.rules.specs.declared.answer.Refusal.{Refusal}
-use Rattle.rules.specs.declared.answer.Closed.{Closed}
-use Rattle.rules.specs.declared.answer.Closed.TheVariants.{Wrote, Refused}
 use Rattle.rules.specs.Lists.{◌or◌}
 use Rattle.rules.specs.Register.{Register, max_rows, register_in, read_register}
 use Rattle.rules.specs.Sheet.{Sheet, sheet_in, read_sheet}
 use Rattle.rules.specs.Closing.{complete}
 use Rattle.rules.specs.Becoming.{next_rows, next}
+use Rattle.rules.specs.Answers.{ClosedAnswer, lengths}
 use Rattle.rules.specs.Refused.{Outcome, refused, done, Closing, closing, register_room, verdict_room, close_sheet, close_outcome}
 use Rattle.rules.specs.Promises.{over, ClosePromise}
 use Rattle.rules.specs.Applies.{to_close, Foremost}
@@ -28,7 +26,7 @@ use Rattle.laws.specs.Kept.{kept_wrote_closing, kept_refuses_closing}
 
 -- what a closing answers, and what it leaves in its two buffers
 pub record Left : Type 0 where
-  pub answer : Closed
+  pub answer : ClosedAnswer
   pub next : Bytes
   pub verdicts : Bytes
 
@@ -38,16 +36,16 @@ Closer = Bytes → Bytes → Bytes → Bytes → Left
 
 -- it answers the two lengths, and writes at the start of the buffers
 abbrev pub writes : Closing → Bytes → Bytes → Left
-writes c next verdicts = record { answer = Wrote (length c.register) (length c.verdicts); next = over next c.register; verdicts = over verdicts c.verdicts }
+writes c next verdicts = record { answer = lengths (length c.register) (length c.verdicts); next = over next c.register; verdicts = over verdicts c.verdicts }
 
 -- it answers the refusal, and leaves the buffers as they were
 abbrev pub refuses_with : Refusal → Bytes → Bytes → Left
-refuses_with x next verdicts = record { answer = Refused x; next = next; verdicts = verdicts }
+refuses_with x next verdicts = record { answer = Err x; next = next; verdicts = verdicts }
 
 -- nothing refuses the closing of this register and this sheet
 pub record Closes (r t : Bytes) (next_room room : ℕ) (g : Register) (s : Sheet) : Type 0 where
-  pub reads_register : read_register r ≡ some g
-  pub reads_sheet : read_sheet t ≡ some s
+  pub reads_register : read_register r ≡ Some g
+  pub reads_sheet : read_sheet t ≡ Some s
   pub follows : s.epoch ≡ g.snapshot + 1
   pub unspoiled : s.spoiled ≡ false
   pub all_sent : complete s ≡ true
@@ -77,9 +75,9 @@ closes→ r t n m c p = go (read_register r) refl (read_sheet t) refl p
   where
     go : (a : Option Register) → read_register r ≡ a → (b : Option Sheet) → read_sheet t ≡ b → close_sheet a b n m ≡ done c
         → (g : Register) × (s : Sheet) × Closes r t n m g s × (c ≡ closing g s)
-    go none e b f p = absurd (refused_not p)
-    go (some g) e none f p = absurd (refused_not p)
-    go (some g) e (some s) f p =
+    go None e b f p = absurd (refused_not p)
+    go (Some g) e None f p = absurd (refused_not p)
+    go (Some g) e (Some s) f p =
         let p₁ = passed (not (eqb s.epoch (g.snapshot + 1))) 4 _ c p in
         let p₂ = passed s.spoiled 6 _ c p₁.1 in
         let p₃ = passed (not (complete s)) 7 _ c p₂.1 in
@@ -152,8 +150,8 @@ settles c d r t next verdicts = go (close_outcome r t (length next) (length verd
 
 -- what is left where this refusal is the foremost that applies, or none does
 unfoldable pub leaves : Option Refusal → Closing → Bytes → Bytes → Left
-leaves none c next verdicts = writes c next verdicts
-leaves (some x) c next verdicts = refuses_with x next verdicts
+leaves None c next verdicts = writes c next verdicts
+leaves (Some x) c next verdicts = refuses_with x next verdicts
 
 -- the paper's own closing
 unfoldable pub paper_closer : Closer
@@ -165,8 +163,8 @@ paper_keeps r t next verdicts = go (first_for (to_close r t (length next) (lengt
   where
     go : (f : Option Refusal) → first_for (to_close r t (length next) (length verdicts)) ≡ f
         → Promised (close_outcome r t (length next) (length verdicts)) next verdicts (leaves f (closing (register_in r) (sheet_in t)) next verdicts)
-    go none e = writes_closing _ _ next verdicts ((close_exactly r t (length next) (length verdicts)).else_done (none_applies _ e))
-    go (some x) e = refuses_closing _ x next verdicts ((close_exactly r t (length next) (length verdicts)).refused_when x (foremost _ x e))
+    go None e = writes_closing _ _ next verdicts ((close_exactly r t (length next) (length verdicts)).else_done (none_applies _ e))
+    go (Some x) e = refuses_closing _ x next verdicts ((close_exactly r t (length next) (length verdicts)).refused_when x (foremost _ x e))
 
 -- THE PAPER'S CLOSING MEETS IT
 pub paper_closes : Demand2 paper_closer
@@ -183,13 +181,13 @@ closed_again r t n m c p n' m' =
     let h = q.2 in
     let sound_g = (register.written_read r g h.reads_register).1 in
     let sound_s = (sheet.written_read t s h.reads_sheet).1 in
-    let again : read_register c.register ≡ some (next g s) =
+    let again : read_register c.register ≡ Some (next g s) =
     ap (λ (k : Closing). read_register k.register) q.3 ∙ next_read g s sound_g sound_s h.follows h.few in
     let epoch = h.follows in
     simp (again, h.reads_sheet, ne_eqb s.epoch (g.snapshot + 1 + 1) (λ e. absurd (omega arith)))
 
 -- NO EPOCH FOLLOWS SNAPSHOT 4,294,967,295: every sheet is refused with 4
-pub none_follows : (r t : Bytes) (n m : ℕ) (g : Register) (s : Sheet) → read_register r ≡ some g → read_sheet t ≡ some s → g.snapshot ≡ 4294967295
+pub none_follows : (r t : Bytes) (n m : ℕ) (g : Register) (s : Sheet) → read_register r ≡ Some g → read_sheet t ≡ Some s → g.snapshot ≡ 4294967295
     → close_outcome r t n m ≡ refused 4
 unfolding close_outcome close_sheet
 none_follows r t n m g s p q e =

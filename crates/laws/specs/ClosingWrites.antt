@@ -1,9 +1,9 @@
 -- WHAT CLOSING WRITES, told of the bytes: the next register reads back, each claimed key has one winner, each set stands whole or not
 -- at all, and a row's mark changes only when its winner commits.
-use Rattle.std.specs.Prelude.{ℕ, ◌≡◌, refl, ◌⊎◌, Bool, true, false}
+use Rattle.std.specs.Prelude.{ℕ, ◌≡◌, refl, ◌⊎◌, Bool, true, false, Option, None, Some}
 use Rattle.std.proofs.Common.{sym, subst, ◌∙◌, ap, inl, inr}
 use mathlib.Core.List.{Memᴰ}
-use Rattle.std.proofs.Math.Option.{Option, none, some, some-injective}
+use Rattle.std.proofs.lemmas.Option.{same_Some}
 use Rattle.words.specs.Words.{Bytes}
 use Rattle.rules.specs.declared.row.Row.{Row}
 use Rattle.rules.specs.declared.row.Record.{Record}
@@ -27,7 +27,7 @@ use Rattle.laws.specs.Closers.{closes→}
 
 -- a key has exactly one winner: a claimant that precedes all others
 abbrev pub OneWinner : Register → Sheet → ℕ → Type 0
-OneWinner g s k = (v : WriteSet) × (winner g s k ≡ some v) × Wins g s k v × ((u : WriteSet) → Wins g s k u → u ≡ v)
+OneWinner g s k = (v : WriteSet) × (winner g s k ≡ Some v) × Wins g s k v × ((u : WriteSet) → Wins g s k u → u ≡ v)
 
 -- what stands at a key of a set that did not commit
 pub data AtKey (g : Register) (s : Sheet) (k : ℕ) : Type 0 where
@@ -51,7 +51,7 @@ pub record NoneOfSet (g : Register) (s : Sheet) (w : WriteSet) : Type 0 where
 -- a closing's bytes, by the register and the sheet that were read
 pub record Writes (g : Register) (s : Sheet) (c : Closing) : Type 0 where
   -- the register's bytes read back as the next register
-  pub next_register : read_register c.register ≡ some (next g s)
+  pub next_register : read_register c.register ≡ Some (next g s)
   -- which has one row a key
   pub one_row : (x y : Row) → Memᴰ x (next_rows g s) → Memᴰ y (next_rows g s) → x.key ≡ y.key → x ≡ y
   -- the verdicts' bytes are those of the sets' verdicts
@@ -89,8 +89,8 @@ at_key : (g : Register) (s : Sheet) → sound_sheet s ≡ true → (k : ℕ) →
 at_key g s sound k = go (committed_on (committed g s) k) refl
   where
     go : (o : Option WriteSet) → committed_on (committed g s) k ≡ o → AtKey g s k
-    go none e = unnamed_key g s k (committed_on_none→ (committed g s) k e)
-    go (some v) e =
+    go None e = unnamed_key g s k (committed_on_none→ (committed g s) k e)
+    go (Some v) e =
         let f = committed_on→ (committed g s) k v e in
         let r = names→ v k f.1 in
         by_another v f.0 r.0 r.1 r.2 (whole g s (committed g s) (chosen g s sound) sound v f.0 r.0 r.1)
@@ -108,7 +108,7 @@ rows_one g e x y m k c = rising_one key_of (rising→ key_of 0 g.rows (register.
 
 -- WHAT CLOSING WRITES: from a closing that is not refused, by the register and the sheet that its bytes read as
 pub closing_writes : (r t : Bytes) (n m : ℕ) (c : Closing) → close_outcome r t n m ≡ done c
-    → (g : Register) × (s : Sheet) × (read_register r ≡ some g) × (read_sheet t ≡ some s) × Writes g s c
+    → (g : Register) × (s : Sheet) × (read_register r ≡ Some g) × (read_sheet t ≡ Some s) × Writes g s c
 unfolding closing next
 closing_writes r t n m c p =
     let q = closes→ r t n m c p in
@@ -138,8 +138,8 @@ closing_writes r t n m c p =
 
 -- closing of bytes that read as this register and this sheet is done, and gives this
 pub record Gives (r t : Bytes) (g : Register) (s : Sheet) (c : Closing) : Type 0 where
-  pub reads_register : read_register r ≡ some g
-  pub reads_sheet : read_sheet t ≡ some s
+  pub reads_register : read_register r ≡ Some g
+  pub reads_sheet : read_sheet t ≡ Some s
   pub next_room : ℕ
   pub room : ℕ
   pub is_done : close_outcome r t next_room room ≡ done c
@@ -148,8 +148,8 @@ pub record Gives (r t : Bytes) (g : Register) (s : Sheet) (c : Closing) : Type 0
 pub gives_writes : (r t : Bytes) (g : Register) (s : Sheet) (c : Closing) → Gives r t g s c → Writes g s c
 gives_writes r t g s c h =
     let w = closing_writes r t h.next_room h.room c h.is_done in
-    let e : w.0 ≡ g = some-injective _ _ (sym w.2 ∙ h.reads_register) in
-    let f : w.1 ≡ s = some-injective _ _ (sym w.3 ∙ h.reads_sheet) in
+    let e : w.0 ≡ g = same_Some _ _ (sym w.2 ∙ h.reads_register) in
+    let f : w.1 ≡ s = same_Some _ _ (sym w.3 ∙ h.reads_sheet) in
     subst (λ (x : Register). Writes x s c) e (subst (λ (x : Sheet). Writes w.0 x c) f w.4)
 
 -- A ROW THAT NO COMMITTED SET NAMES STAYS BYTE FOR BYTE: its 28 bytes are a row of the register that was read, and of the one that is written

@@ -1,10 +1,10 @@
 -- WHO COMMITS: a set of a sound sheet commits just when it is fit and precedes every other fit set on each of its keys; a verdict's key
 -- is the smallest lost or found wrong; no two committed sets share a key; where any set is fit, some set commits.
-use Rattle.std.specs.Prelude.{ℕ, ◌≤◌, ◌<◌, ◌≡◌, refl, ◌⊎◌, Bool, true, false, not, eqb}
+use Rattle.std.specs.Prelude.{ℕ, ◌≤◌, ◌<◌, ◌≡◌, refl, ◌⊎◌, Bool, true, false, not, eqb, Option, None, Some}
 use Rattle.std.proofs.Common.{sym, ◌∙◌, ap, ap₂, arith, eqb-true, eq-eqb}
 use Rattle.std.proofs.lemmas.Bool.{false≢true, not-true, not-false}
 use mathlib.Core.List.{List, [], ◌∷◌, Memᴰ}
-use Rattle.std.proofs.Math.Option.{Option, none, some, some-injective}
+use Rattle.std.proofs.lemmas.Option.{same_Some}
 use Rattle.rules.specs.declared.row.Record.{Record}
 use Rattle.rules.specs.declared.answer.Verdict.{Verdict}
 use Rattle.rules.specs.declared.answer.Verdict.TheVariants.{Commit, Lost, Unfit}
@@ -54,16 +54,16 @@ names→ w k e = let r = any→ (λ q. eqb q.key k) w.records e in (r.0, r.1, eq
 
 -- ---- committed sets
 
-first_of_none : {A : Type 0} (p : A → Bool) (xs : List A) → ((x : A) → Memᴰ x xs → p x ≡ false) → first p xs ≡ none
+first_of_none : {A : Type 0} (p : A → Bool) (xs : List A) → ((x : A) → Memᴰ x xs → p x ≡ false) → first p xs ≡ None
 unfolding first
 first_of_none p [] h = refl
 first_of_none p (x ∷ xs) h = rw (h x (Memᴰ.head refl)) (first_of_none p xs (λ y m. h y (Memᴰ.tail m)))
 
-judged→ : (a b : Option Record) → is_commit (judged a b) ≡ true → (a ≡ none) × (b ≡ none)
+judged→ : (a b : Option Record) → is_commit (judged a b) ≡ true → (a ≡ None) × (b ≡ None)
 unfolding is_commit judged
-judged→ (some r) b e = absurd (false≢true e)
-judged→ none (some r) e = absurd (false≢true e)
-judged→ none none e = (refl, refl)
+judged→ (Some r) b e = absurd (false≢true e)
+judged→ None (Some r) e = absurd (false≢true e)
+judged→ None None e = (refl, refl)
 
 -- a committed set is fit, and wins each of its keys
 pub commits→ : (g : Register) (s : Sheet) (w : WriteSet) → commits g s w ≡ true
@@ -120,7 +120,7 @@ pub commits_apart : (g : Register) (s : Sheet) (v w : WriteSet) (p q : Record) �
     → Memᴰ p v.records → Memᴰ q w.records → p.key ≡ q.key → v ≡ w
 commits_apart g s v w p q e i j a b m n c =
     let t = sheet_apart s e in
-    some-injective v w
+    same_Some v w
     (sym (wins→ g s p.key v t i (commits→ g s v a p m).1) ∙ ap (winner g s) c ∙ wins→ g s q.key w t j (commits→ g s w b q n).1)
 
 -- ---- who leads commits
@@ -162,7 +162,7 @@ VerdictSays g s w Commit = Committed g s w
 VerdictSays g s w (Lost k) = (fit g w ≡ true) × Smallest w (NotWon g s w) k
 VerdictSays g s w (Unfit k) = Smallest w (FoundWrong g) k
 
-first_smallest : (w : WriteSet) (p : Record → Bool) {r : Record} → sound_records w.records ≡ true → first (λ q. not (p q)) w.records ≡ some r
+first_smallest : (w : WriteSet) (p : Record → Bool) {r : Record} → sound_records w.records ≡ true → first (λ q. not (p q)) w.records ≡ Some r
     → Smallest w (λ q. p q ≡ false) r.key
 first_smallest w p {r} e h =
     let t = records_rising w.records e in
@@ -174,7 +174,7 @@ first_smallest w p {r} e h =
       some_key = omega arith;
     }
 
-pub no_wrong_fit : (g : Register) (w : WriteSet) → first_wrong g w ≡ none → fit g w ≡ true
+pub no_wrong_fit : (g : Register) (w : WriteSet) → first_wrong g w ≡ None → fit g w ≡ true
 unfolding first_wrong
 no_wrong_fit g w n = →fit g w (λ r k. not-false _ (first_none (λ r. not (fit_record g r)) w.records n r k))
 
@@ -184,6 +184,6 @@ unfolding verdict judged first_wrong first_lost
 verdict_key_lem g s w e m = go (first_wrong g w) refl (first_lost g s w) refl
   where
     go : (a : Option Record) → first_wrong g w ≡ a → (b : Option Record) → first_lost g s w ≡ b → VerdictSays g s w (judged a b)
-    go (some r) p b q = first_smallest w (fit_record g) (set_records s w e m) p
-    go none p (some r) q = (no_wrong_fit g w p, first_smallest w (λ r. wins g s w r.key) (set_records s w e m) q)
-    go none p none q = (commits_iff g s w e m).told (commits_of g s w (ap₂ judged p q))
+    go (Some r) p b q = first_smallest w (fit_record g) (set_records s w e m) p
+    go None p (Some r) q = (no_wrong_fit g w p, first_smallest w (λ r. wins g s w r.key) (set_records s w e m) q)
+    go None p None q = (commits_iff g s w e m).told (commits_of g s w (ap₂ judged p q))

@@ -1,12 +1,12 @@
 -- DEMAND 3: however offers are dealt over sheets, opened or given, repeated, ordered and joined, if no operation refuses, the bytes are
 -- those of the sheet that Gathering defines from the offers. That the offers are fair, and epochs and rosters agree, follows from not being
 -- refused.
-use Rattle.std.specs.Prelude.{ℕ, ◌<◌, ◌≤◌, ◌≡◌, true, false, List, [], ◌∷◌, ◌++◌, leb}
+use Rattle.std.specs.Prelude.{ℕ, ◌<◌, ◌≤◌, ◌≡◌, true, false, List, [], ◌∷◌, ◌++◌, leb, Option, Some}
 use Rattle.std.proofs.Math.Path.{refl}
 use Rattle.std.proofs.Common.{sym, ◌∙◌, ap, ap₂, subst, ⊎_elim, arith}
 use Rattle.std.proofs.lemmas.Bool.{false≢true}
 use mathlib.Core.List.Memᴰ
-use Rattle.std.proofs.Math.Option.{Option, some, some-injective}
+use Rattle.std.proofs.lemmas.Option.{same_Some}
 use Rattle.words.specs.Words.{Bytes}
 use Rattle.rules.specs.Numbers.{master_of}
 use Rattle.rules.specs.Lists.{◌or◌}
@@ -38,7 +38,7 @@ unfolding gathered_in
 in_roster_lem t = from_roster (spoiled_in t) (epoch_of t) (roster_of t) (offers_in t)
 
 -- its bytes, read
-pub ended_read : (t : Tree) (b : Bytes) → Ended t b → read_sheet b ≡ some (gathered_in t)
+pub ended_read : (t : Tree) (b : Bytes) → Ended t b → read_sheet b ≡ Some (gathered_in t)
 unfolding gathered_in
 ended_read t b k = ap read_sheet k.bytes ∙ read_written (gathered_in t) (from_sound (spoiled_in t) (epoch_of t) (roster_of t) (offers_in t) k.head k.fair)
 
@@ -55,7 +55,7 @@ with_one_lem t o f = from_put (spoiled_in t) (epoch_of t) (roster_of t) (offers_
 
 -- an offer that went in
 pub taken : (t : Tree) (s : Bytes) (o : Option Offer) (e m room : ℕ) (b : Bytes) → Ended t s → offer_to (read_sheet s) o e m room ≡ done b
-    → (x : Offer) × (o ≡ some x) × (e ≡ epoch_of t) × (in_roster (roster_of t) m ≡ true) × (b ≡ sheet_bytes (with_one t x)) × (sheet_room ≤ room)
+    → (x : Offer) × (o ≡ Some x) × (e ≡ epoch_of t) × (in_roster (roster_of t) m ≡ true) × (b ≡ sheet_bytes (with_one t x)) × (sheet_room ≤ room)
 taken t s o e m room b k p =
     let q = offer→ (gathered_in t) o e m room b (sym (ap (λ (g : Option Sheet). offer_to g o e m room) (ended_read t s k)) ∙ p) in
     (q.0, q.1, q.2 ∙ in_epoch t, sym (ap (λ (n : ℕ). in_roster n m) (in_roster_lem t)) ∙ q.3, q.4 ∙ ap sheet_bytes (with_one_lem t q.0 k.fair), q.5)
@@ -206,7 +206,7 @@ unfolding gathered_in
 ended_spoiled t k =
     let e = epoch_of t in
     let r = roster_of t in
-    let w : spoiled_sheet e r ≡ gathered_in t = some-injective _ _ (sym (read_written (spoiled_sheet e r) (spoiled_sound e r k.head)) ∙ ended_read t _ k) in
+    let w : spoiled_sheet e r ≡ gathered_in t = same_Some _ _ (sym (read_written (spoiled_sheet e r) (spoiled_sound e r k.head)) ∙ ended_read t _ k) in
     sym (from_spoiled (spoiled_in t) e r (offers_in t)) ∙ sym (ap (λ (s : Sheet). s.spoiled) w) ∙ spoiled_is e r
 
 -- SPOILED IS FINAL: a tree with a spoiled one in it, if not refused, ends in the same spoiled sheet

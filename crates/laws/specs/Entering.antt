@@ -1,6 +1,6 @@
 -- ENTERING: where it is not refused the open set has exactly that record more, in key order; what is no open set, and a tag that is not right, is refused.
 use Prim.Native.Nat.{ℕ, suc, ◌≤◌, ◌<◌}
-use Rattle.std.specs.Prelude.{◌≡◌, ◌⊎◌, Bool, not, ltb, leb, eqb, if◌then◌else◌}
+use Rattle.std.specs.Prelude.{◌≡◌, ◌⊎◌, Bool, not, ltb, leb, eqb, if◌then◌else◌, Some}
 use Rattle.std.proofs.Math.Path.{refl, ap}
 use Rattle.std.proofs.Common.{sym, ◌∙◌, arith, ltb-true, ltb-false, eqb-true, eq-eqb, leb-false}
 use Rattle.std.proofs.Math.Logic.{inl, inr, ⊎_elim}
@@ -9,7 +9,6 @@ use mathlib.Core.List.Memᴰ
 use mathlib.Core.List.Memᴰ.{head as here}
 use mathlib.Core.List.Memᴰ.{tail as later}
 use mathlib.Core.List.{List, [], ◌∷◌, Memᴰ}
-use Rattle.std.proofs.Math.Option.{some}
 use Rattle.std.proofs.lemmas.Bool.{not-false}
 use Rattle.std.proofs.Math.ListN.{length}
 use Rattle.words.specs.Words.{Bytes}
@@ -122,9 +121,9 @@ typed_sound kind key value k v h = both k (both (right _ _ h) v)
 pub record Enters (o : OpenSet) (kind : ℕ) (tag : Bytes) (value : ℕ) (after : OpenSet) : Type 0 where
   pub held : List Record
   pub key : ℕ
-  pub was : read_open o ≡ some held
-  pub tagged : key_of_tag tag ≡ some key
-  pub is : read_open after ≡ some (put_record (record_of kind key value) held)
+  pub was : read_open o ≡ Some held
+  pub tagged : key_of_tag tag ≡ Some key
+  pub is : read_open after ≡ Some (put_record (record_of kind key value) held)
   pub new : (x : Record) → Memᴰ x held → x.key ≡ key → ⊥
   pub one_more : length (put_record (record_of kind key value) held) ≡ suc (length held)
   pub has_it : Memᴰ (record_of kind key value) (put_record (record_of kind key value) held)

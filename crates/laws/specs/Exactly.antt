@@ -1,13 +1,12 @@
 -- REFUSED EXACTLY WHEN: each operation's outcome is the table of refusals, read row by row. It is refused with a number just when
 -- that is the foremost that applies, and else done, with the result that the documents name.
-use Rattle.std.specs.Prelude.{ℕ, zero, suc, ◌+◌, ◌*◌, ◌<◌, ◌≤◌, ◌≡◌, Bool, not, length, get_or, ltb, leb, eqb, if◌then◌else◌}
+use Rattle.std.specs.Prelude.{ℕ, zero, suc, ◌+◌, ◌*◌, ◌<◌, ◌≤◌, ◌≡◌, Bool, not, length, get_or, ltb, leb, eqb, if◌then◌else◌, Option, None, Some}
 use Rattle.std.proofs.Math.Path.{refl, ap}
 use Rattle.std.proofs.Common.{sym, ◌∙◌, arith, ltb-false, le-ltb, leb-true, le-leb, ne_eqb}
 use Rattle.std.proofs.Math.Bool.{true, false}
 use mathlib.Core.List.Memᴰ.{head as here}
 use mathlib.Core.List.Memᴰ.{tail as later}
 use mathlib.Core.List.{List, [], ◌∷◌, Memᴰ}
-use Rattle.std.proofs.Math.Option.{Option, none, some}
 use Rattle.std.proofs.lemmas.Bool.{eqb-false, lt-leb, not-true}
 use Rattle.words.specs.Words.{Bytes}
 use Rattle.rules.specs.declared.row.Record.{Record}
@@ -49,8 +48,8 @@ first_for q = first (λ x. applies x q) refusals
 
 -- refused by its number if there is a refusal, else done with this result
 unfoldable pub by : {A : Type 0} → Option Refusal → A → Outcome A
-by none a = done a
-by (some x) a = refused (refusal_number x)
+by None a = done a
+by (Some x) a = refused (refusal_number x)
 
 -- every refusal is in the table
 in_table_lem : (x : Refusal) → Memᴰ x refusals
@@ -97,7 +96,7 @@ not_both : {m n : ℕ} → m ≤ n → n < m → ⊥
 not_both h k = omega arith
 
 -- the first of the table that applies is the foremost that does
-pub foremost : (q : Asked) (x : Refusal) → first_for q ≡ some x → Foremost q x
+pub foremost : (q : Asked) (x : Refusal) → first_for q ≡ Some x → Foremost q x
 unfolding first_for
 foremost q x e = record {
   it_applies = (first→ (λ y. applies y q) refusals e).1;
@@ -105,7 +104,7 @@ foremost q x e = record {
 }
 
 -- where there is none, none applies
-pub none_applies : (q : Asked) → first_for q ≡ none → NoneApplies q
+pub none_applies : (q : Asked) → first_for q ≡ None → NoneApplies q
 unfolding first_for
 none_applies q e x = first_none (λ y. applies y q) refusals e x (in_table_lem x)
 
@@ -124,13 +123,13 @@ module _ {A : Type 0} (q : Asked) (o : Outcome A) (a : A) where
   exactly_by p = go (first_for q) refl p
     where
       go : (f : Option Refusal) → first_for q ≡ f → o ≡ by f a → RefusedExactly q o a
-      go none e p = record {
+      go None e p = record {
         refused_when = λ x s. absurd (clash s.it_applies (none_applies q e x));
         only_when = λ n r. absurd (refused_not (sym r ∙ p));
         else_done = λ h. p;
         only_else = λ b r. (none_applies q e, done_same (sym r ∙ p));
       }
-      go (some x) e p = record {
+      go (Some x) e p = record {
         refused_when = λ y s. p ∙ ap refused (one_foremost q x y (foremost q x e) s);
         only_when = λ n r. (x, refused_same (sym r ∙ p), foremost q x e);
         else_done = λ h. absurd (clash (foremost q x e).it_applies (h x));
@@ -139,13 +138,13 @@ module _ {A : Type 0} (q : Asked) (o : Outcome A) (a : A) where
 
 module _ {A : Type 0} where
   -- one row of the table: refused by its number where its test holds, else as the rows below it
-  row : {o : Outcome A} (t : Bool) (x : Refusal) (f : Option Refusal) (a : A) → o ≡ by f a → (if t then refused (refusal_number x) else o) ≡ by (if t then some x else f) a
+  row : {o : Outcome A} (t : Bool) (x : Refusal) (f : Option Refusal) (a : A) → o ≡ by f a → (if t then refused (refusal_number x) else o) ≡ by (if t then Some x else f) a
   unfolding by
   row true x f a p = refl
   row false x f a p = p
 
   -- where no row is left it is done
-  end : (a : A) → done a ≡ by none a
+  end : (a : A) → done a ≡ by None a
   unfolding by
   end a = refl
 
@@ -166,14 +165,14 @@ open_exactly e r room =
 
 -- an offer to a sheet: t that the bytes are a sheet, u that the offer is ill-formed
 offer_by : (t u : Bool) (s : Sheet) (o : Offer) (e m room : ℕ)
-    → offer_to (if t then some s else none) (if u then none else some o) e m room
+    → offer_to (if t then Some s else None) (if u then None else Some o) e m room
     ≡ by
-    (if not t then some SheetIllFormed else
-    if u then some OfferIllFormed else
-    if not (eqb e s.epoch) then some WrongEpoch else
-    if not (in_roster s.roster m) then some WrongRoster else
-    if ltb room sheet_room then some BufferShort else
-    none)
+    (if not t then Some SheetIllFormed else
+    if u then Some OfferIllFormed else
+    if not (eqb e s.epoch) then Some WrongEpoch else
+    if not (in_roster s.roster m) then Some WrongRoster else
+    if ltb room sheet_room then Some BufferShort else
+    None)
     (sheet_bytes (with_offer s o))
 unfolding offer_to by
 offer_by false u s o e m room = refl
@@ -214,21 +213,21 @@ neither {a} {b} p q = record { turns = go a p.turns q.turns }
     go false p q = rw (p, q)
 
 -- an offer, by its test or by the opposite one
-offered : {good bad : Bool} (o : Offer) → Opposite good bad → (if good then some o else none) ≡ (if bad then none else some o)
+offered : {good bad : Bool} (o : Offer) → Opposite good bad → (if good then Some o else None) ≡ (if bad then None else Some o)
 offered {bad} o p = go bad p.turns
   where
-    go : {good : Bool} (bad : Bool) → good ≡ not bad → (if good then some o else none) ≡ (if bad then none else some o)
+    go : {good : Bool} (bad : Bool) → good ≡ not bad → (if good then Some o else None) ≡ (if bad then None else Some o)
     go true p = rw p
     go false p = rw p
 
 -- a set by its numbers and, where c, its records
 set_if_lem : (e sen csn : ℕ) (rs : List Record) (c : Bool)
-    → set_with e sen csn (if c then some rs else none) ≡ (if leb 1 e and leb sen e and c then some (a_set (set_by csn sen rs)) else none)
+    → set_with e sen csn (if c then Some rs else None) ≡ (if leb 1 e and leb sen e and c then Some (a_set (set_by csn sen rs)) else None)
 unfolding set_with ◌and◌
 set_if_lem e sen csn rs c = go c (leb 1 e) refl (leb sen e) refl
   where
     go : (c x : Bool) → leb 1 e ≡ x → (y : Bool) → leb sen e ≡ y
-        → set_with e sen csn (if c then some rs else none) ≡ (if leb 1 e and leb sen e and c then some (a_set (set_by csn sen rs)) else none)
+        → set_with e sen csn (if c then Some rs else None) ≡ (if leb 1 e and leb sen e and c then Some (a_set (set_by csn sen rs)) else None)
     go true true p true q = simp (p, q)
     go true true p false q = simp (p, q)
     go true false p y q = simp p
@@ -238,13 +237,13 @@ set_if_lem e sen csn rs c = go c (leb 1 e) refl (leb sen e) refl
 
 -- the offered set, by what makes it ill-formed
 set_by_lem : (e sen csn : ℕ) (b : Bytes)
-    → offered_set e sen csn b ≡ (if eqb e 0 or ltb e sen or not (are_records b) then none else some (a_set (set_by csn sen (offered_records b))))
+    → offered_set e sen csn b ≡ (if eqb e 0 or ltb e sen or not (are_records b) then None else Some (a_set (set_by csn sen (offered_records b))))
 unfolding offered_set read_records are_records read
 set_by_lem e sen csn b =
     set_if_lem e sen csn (offered_records b) (are_records b) ∙ offered (a_set (set_by csn sen (offered_records b))) (neither (not_zero e) (neither (not_above sen e) (not_not (are_records b))))
 
 -- the offered notice, by what makes it ill-formed
-notice_by_lem : (e m n : ℕ) → offered_notice e m n ≡ (if eqb e 0 or ltb 15 m or ltb max_sets n then none else some (a_notice (record { master = m; number = n })))
+notice_by_lem : (e m n : ℕ) → offered_notice e m n ≡ (if eqb e 0 or ltb 15 m or ltb max_sets n then None else Some (a_notice (record { master = m; number = n })))
 unfolding offered_notice
 notice_by_lem e m n = offered (a_notice (record { master = m; number = n })) (neither (not_zero e) (neither (not_above m 15) (not_above n max_sets)))
 
@@ -270,13 +269,13 @@ notice_exactly s e m n room =
 
 -- of two sheets: t that the first bytes are one, u that the second are
 join_by : (t u : Bool) (a b : Sheet) (room : ℕ)
-    → join_sheets (if t then some a else none) (if u then some b else none) room
+    → join_sheets (if t then Some a else None) (if u then Some b else None) room
     ≡ by
-    (if not t or not u then some SheetIllFormed else
-    if not (eqb a.epoch b.epoch) then some WrongEpoch else
-    if not (eqb a.roster b.roster) then some WrongRoster else
-    if ltb room sheet_room then some BufferShort else
-    none)
+    (if not t or not u then Some SheetIllFormed else
+    if not (eqb a.epoch b.epoch) then Some WrongEpoch else
+    if not (eqb a.roster b.roster) then Some WrongRoster else
+    if ltb room sheet_room then Some BufferShort else
+    None)
     (sheet_bytes (joined a b))
 unfolding join_sheets by ◌or◌
 join_by false u a b room = refl
@@ -317,16 +316,16 @@ owing s = some_not (λ m. in_roster s.roster m and owes s m) (λ m. not (in_rost
 
 -- of a register and a sheet: t that the first bytes are a register, u that the second are a sheet
 close_by : (t u : Bool) (g : Register) (s : Sheet) (n m : ℕ)
-    → close_sheet (if t then some g else none) (if u then some s else none) n m
+    → close_sheet (if t then Some g else None) (if u then Some s else None) n m
     ≡ by
-    (if not t then some RegisterIllFormed else
-    if not u then some SheetIllFormed else
-    if not (eqb s.epoch (g.snapshot + 1)) then some WrongEpoch else
-    if s.spoiled then some Spoiled else
-    if any (λ k. in_roster s.roster k and owes s k) masters then some Incomplete else
-    if ltb max_rows (length (next g s).rows) then some TooManyRows else
-    if ltb n register_room or ltb m verdict_room then some BufferShort else
-    none)
+    (if not t then Some RegisterIllFormed else
+    if not u then Some SheetIllFormed else
+    if not (eqb s.epoch (g.snapshot + 1)) then Some WrongEpoch else
+    if s.spoiled then Some Spoiled else
+    if any (λ k. in_roster s.roster k and owes s k) masters then Some Incomplete else
+    if ltb max_rows (length (next g s).rows) then Some TooManyRows else
+    if ltb n register_room or ltb m verdict_room then Some BufferShort else
+    None)
     (closing g s)
 unfolding close_sheet next by
 close_by false u g s n m = refl
@@ -348,8 +347,8 @@ close_exactly r t n m = exactly_by (to_close r t n m) _ _ (close_by (is_register
 
 -- the entries, none of them where two lists are of unequal length
 abbrev pub entries_of : Option (List Read) → List Read
-entries_of none = []
-entries_of (some es) = es
+entries_of None = []
+entries_of (Some es) = es
 
 -- the modes are 1 to 3
 modes : (m : ℕ) → leb 1 m and leb m snapshot_isolation ≡ eqb m read_committed or eqb m repeatable_read or eqb m snapshot_isolation
@@ -372,34 +371,34 @@ or_or false b c = refl
 -- what is wrong with a check of entries that are there
 bad_by : (g : Register) (mode lsn : ℕ) (es : List Read)
     → bad_check g mode lsn es
-    ≡ not (eqb mode read_committed or eqb mode repeatable_read or eqb mode snapshot_isolation) or bad_entries (some es) or ltb g.snapshot lsn
+    ≡ not (eqb mode read_committed or eqb mode repeatable_read or eqb mode snapshot_isolation) or bad_entries (Some es) or ltb g.snapshot lsn
 unfolding bad_check bad_entries
 bad_by g mode lsn es = simp (modes mode, or_or (any (λ e. eqb e.key 0) es) (ltb max_reads (length es)) (ltb g.snapshot lsn))
 
-no_entries : (a b : Bool) → a or bad_entries none or b ≡ true
+no_entries : (a b : Bool) → a or bad_entries None or b ≡ true
 unfolding bad_entries ◌or◌
 no_entries true b = refl
 no_entries false b = refl
 
 -- of a register and entries: t that the bytes are a register
 check_by : (t : Bool) (g : Register) (mode lsn : ℕ) (es : Option (List Read))
-    → check_reads (if t then some g else none) mode lsn es
+    → check_reads (if t then Some g else None) mode lsn es
     ≡ by
-    (if not t then some RegisterIllFormed else
-    if not (eqb mode read_committed or eqb mode repeatable_read or eqb mode snapshot_isolation) or bad_entries es or ltb g.snapshot lsn then some CheckIllFormed else
-    none)
+    (if not t then Some RegisterIllFormed else
+    if not (eqb mode read_committed or eqb mode repeatable_read or eqb mode snapshot_isolation) or bad_entries es or ltb g.snapshot lsn then Some CheckIllFormed else
+    None)
     (check_from g mode lsn 0 (entries_of es))
 unfolding check_reads by
 check_by false g mode lsn es = refl
-check_by true g mode lsn none = rw (no_entries (not (eqb mode read_committed or eqb mode repeatable_read or eqb mode snapshot_isolation)) (ltb g.snapshot lsn))
-check_by true g mode lsn (some es) = rw⁻¹ (bad_by g mode lsn es) (row (bad_check g mode lsn es) CheckIllFormed _ _ (end _))
+check_by true g mode lsn None = rw (no_entries (not (eqb mode read_committed or eqb mode repeatable_read or eqb mode snapshot_isolation)) (ltb g.snapshot lsn))
+check_by true g mode lsn (Some es) = rw⁻¹ (bad_by g mode lsn es) (row (bad_check g mode lsn es) CheckIllFormed _ _ (end _))
 
 -- OF THE READ CHECK, over a list of entries
 pub reads_exactly : (register : Bytes) (mode lsn : ℕ) (es : List Read)
-    → RefusedExactly (to_check register mode lsn (some es)) (reads_outcome register mode lsn es) (check_from (register_in register) mode lsn 0 es)
+    → RefusedExactly (to_check register mode lsn (Some es)) (reads_outcome register mode lsn es) (check_from (register_in register) mode lsn 0 es)
 unfolding run_table reads_outcome read_register is_register read
 reads_exactly register mode lsn es =
-    exactly_by (to_check register mode lsn (some es)) _ _ (check_by (is_register register) (register_in register) mode lsn (some es))
+    exactly_by (to_check register mode lsn (Some es)) _ _ (check_by (is_register register) (register_in register) mode lsn (Some es))
 
 -- AND OF THE READ CHECK, over a list of keys and a list of csns
 pub check_exactly : (register : Bytes) (mode lsn : ℕ) (keys csns : List ℕ)
@@ -424,14 +423,14 @@ enter_exactly o kind tag value =
 
 -- a set with these records where t, and else none
 abbrev set_if : ℕ → ℕ → ℕ → Bool → List Record → Option Offer
-set_if e sen csn t rs = if eqb e 0 or ltb e sen or not t then none else some (a_set (set_by csn sen rs))
+set_if e sen csn t rs = if eqb e 0 or ltb e sen or not t then None else Some (a_set (set_by csn sen rs))
 
 -- where it is none, any records do
 no_set_lem : (e sen csn : ℕ) (rs qs : List Record) → set_if e sen csn false rs ≡ set_if e sen csn false qs
 unfolding ◌or◌
 no_set_lem e sen csn rs qs = go (eqb e 0) (ltb e sen)
   where
-    go : (x y : Bool) → (if x or y or true then none else some (a_set (set_by csn sen rs))) ≡ (if x or y or true then none else some (a_set (set_by csn sen qs)))
+    go : (x y : Bool) → (if x or y or true then None else Some (a_set (set_by csn sen rs))) ≡ (if x or y or true then None else Some (a_set (set_by csn sen qs)))
     go true y = refl
     go false true = refl
     go false false = refl

@@ -1,7 +1,6 @@
 -- Trees that nothing in the table of refusals hits: one epoch and one roster throughout, offers that are well-formed and of masters in
 -- the roster, buffers that are long enough.
-use Rattle.std.specs.Prelude.{ℕ, ◌≤◌, ◌≡◌, true}
-use Rattle.std.proofs.Math.Option.{some}
+use Rattle.std.specs.Prelude.{ℕ, ◌≤◌, ◌≡◌, true, Some}
 use Rattle.words.specs.Words.{Bytes}
 use Rattle.rules.specs.Numbers.{master_of}
 use Rattle.rules.specs.Sheet.{in_roster, sheet_in}
@@ -11,12 +10,12 @@ use Rattle.laws.specs.Trees.{Tree, opened, put, notice, join, given, epoch_of, r
 
 -- an offered set that is well-formed, and of a master in the roster
 pub record GoodSet (e r sen csn : ℕ) (b : Bytes) : Type 0 where
-  pub well_formed_lem : (o : Offer) × (offered_set e sen csn b ≡ some o)
+  pub well_formed_lem : (o : Offer) × (offered_set e sen csn b ≡ Some o)
   pub in_roster_lem : in_roster r (master_of csn) ≡ true
 
 -- an offered notice that is well-formed, and of a master in the roster
 pub record GoodNotice (e r m n : ℕ) : Type 0 where
-  pub well_formed_lem : (o : Offer) × (offered_notice e m n ≡ some o)
+  pub well_formed_lem : (o : Offer) × (offered_notice e m n ≡ Some o)
   pub in_roster_lem : in_roster r m ≡ true
 
 -- a tree over one epoch and one roster whose offers are so, and whose buffers are each at least 9,240 long

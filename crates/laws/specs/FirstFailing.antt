@@ -1,11 +1,10 @@
 -- THE READ CHECK tells the first failing entry: where it fails, the entry at its index has its key and fails for its reason, and each entry
 -- before it stands; where it passes, every entry stands.
-use Rattle.std.specs.Prelude.{ℕ, suc, ◌+◌, ◌≡◌, length}
+use Rattle.std.specs.Prelude.{ℕ, suc, ◌+◌, ◌≡◌, length, Option, None, Some}
 use Rattle.std.proofs.Math.Path.{refl}
 use Rattle.std.proofs.Common.{◌∙◌, ap, ⊎_elim, arith}
 use mathlib.Core.List.Memᴰ
 use mathlib.Core.List.{List, [], ◌∷◌, ◌++◌, Memᴰ}
-use Rattle.std.proofs.Math.Option.{Option, none, some}
 use Rattle.rules.specs.declared.row.Read.{Read}
 use Rattle.rules.specs.declared.answer.Reason.{Reason}
 use Rattle.rules.specs.Register.{Register}
@@ -13,7 +12,7 @@ use Rattle.rules.specs.ReadCheck.{Finding, passes, fails, failing, finding_or, c
 
 -- an entry that does not fail
 abbrev pub Stands : Register → ℕ → ℕ → Read → Type 0
-Stands g mode lsn e = failing g mode lsn e ≡ none
+Stands g mode lsn e = failing g mode lsn e ≡ None
 
 -- the first failing entry of a list, the entries counted from i
 pub record First (g : Register) (mode lsn i : ℕ) (es : List Read) (index key : ℕ) (reason : Reason) : Type 0 where
@@ -23,7 +22,7 @@ pub record First (g : Register) (mode lsn i : ℕ) (es : List Read) (index key :
   pub split : es ≡ before ++ entry ∷ behind
   pub place : index ≡ i + length before
   pub its_key : key ≡ entry.key
-  pub its_reason : failing g mode lsn entry ≡ some reason
+  pub its_reason : failing g mode lsn entry ≡ Some reason
   pub earlier : (e : Read) → Memᴰ e before → Stands g mode lsn e
 
 -- what a finding says of the entries
@@ -60,8 +59,8 @@ module _ (g : Register) (mode lsn : ℕ) where
     where
       go : (o : Option Reason) → failing g mode lsn e ≡ o → Tells g mode lsn (suc i) es (check_from g mode lsn (suc i) es)
           → Tells g mode lsn i (e ∷ es) (finding_or o i e.key (check_from g mode lsn (suc i) es))
-      go none p t = one_more i e es (check_from g mode lsn (suc i) es) p t
-      go (some r) p t =
+      go None p t = one_more i e es (check_from g mode lsn (suc i) es) p t
+      go (Some r) p t =
           record {
             before = [];
             entry = e;

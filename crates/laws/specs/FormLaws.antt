@@ -1,10 +1,10 @@
 -- Laws of reading a form: a sound value comes back from its bytes, and what is read is written as the bytes that were read.
-use Rattle.std.specs.Prelude.{ℕ, ◌<◌, ◌^◌, ◌≡◌, Bool, List, [], ◌∷◌, eqb, if◌then◌else◌}
+use Rattle.std.specs.Prelude.{ℕ, ◌<◌, ◌^◌, ◌≡◌, Bool, List, [], ◌∷◌, eqb, if◌then◌else◌, None, Some}
 use Rattle.std.proofs.Math.Path.{refl, sym, ap}
 use Rattle.std.proofs.Common.{◌∙◌, ap₂, ltb-true, lt-ltb, eqb-true, eq-eqb}
 use Rattle.std.proofs.Math.Bool.{true, false}
 use Rattle.std.proofs.lemmas.Bool.{false≢true}
-use Rattle.std.proofs.Math.Option.{none, some, some-injective, none-ne-some}
+use Rattle.std.proofs.lemmas.Option.{same_Some, none-some}
 use Rattle.words.specs.Words.{Bytes}
 use Rattle.rules.specs.Lists.{◌and◌, same}
 use Rattle.rules.specs.Numbers.{fits}
@@ -33,17 +33,17 @@ same_refl (x ∷ xs) = both (eq-eqb x x refl) (same_refl xs)
 
 module _ {A : Type 0} (decode : Bytes → A) (sound : A → Bool) (encode : A → Bytes) where
   -- a sound value comes back from its bytes, if decoding undoes encoding
-  pub read_encoded : (a : A) → decode (encode a) ≡ a → sound a ≡ true → read decode sound encode (encode a) ≡ some a
+  pub read_encoded : (a : A) → decode (encode a) ≡ a → sound a ≡ true → read decode sound encode (encode a) ≡ Some a
   unfolding read well_formed
   read_encoded a d s = simp (d, both s (same_refl (encode a)))
 
   -- what is read is sound, and its bytes are those that were read
-  pub read_exact : (b : Bytes) (a : A) → read decode sound encode b ≡ some a → (b ≡ encode a) × (sound a ≡ true)
+  pub read_exact : (b : Bytes) (a : A) → read decode sound encode b ≡ Some a → (b ≡ encode a) × (sound a ≡ true)
   unfolding read well_formed
   read_exact b a e = go (sound (decode b) and same (encode (decode b)) b) refl e
     where
-      go : (t : Bool) → (sound (decode b) and same (encode (decode b)) b) ≡ t → (if t then some (decode b) else none) ≡ some a → (b ≡ encode a) × (sound a ≡ true)
+      go : (t : Bool) → (sound (decode b) and same (encode (decode b)) b) ≡ t → (if t then Some (decode b) else None) ≡ Some a → (b ≡ encode a) × (sound a ≡ true)
       go true p q =
-          let w : decode b ≡ a = some-injective (decode b) a q in
+          let w : decode b ≡ a = same_Some (decode b) a q in
           (sym (same→ (encode (decode b)) b (right _ _ p)) ∙ ap encode w, sym (ap sound w) ∙ left _ _ p)
-      go false p q = absurd (none-ne-some a q)
+      go false p q = absurd (none-some a q)

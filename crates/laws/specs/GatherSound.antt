@@ -1,10 +1,9 @@
 -- What is gathered from fair offers is a sound sheet, so it comes back from its bytes.
-use Rattle.std.specs.Prelude.{ℕ, ◌<◌, ◌≤◌, ◌≡◌, refl, Bool, true, false, not, length, get_or, leb}
+use Rattle.std.specs.Prelude.{ℕ, ◌<◌, ◌≤◌, ◌≡◌, refl, Bool, true, false, not, length, get_or, leb, Some}
 use Rattle.std.proofs.Common.{sym, ◌∙◌, ap, subst, ⊎_elim, arith, ltb-false, le-leb, eq-eqb}
 use Rattle.std.proofs.lemmas.Bool.{false≢true}
 use mathlib.Core.List.Memᴰ
 use mathlib.Core.List.{List, [], ◌∷◌, map, Memᴰ}
-use Rattle.std.proofs.Math.Option.{some}
 use Rattle.rules.specs.Lists.{◌and◌, ◌or◌, all, any, keep, count, flat, ascend, up_from}
 use Rattle.rules.specs.Numbers.{fits}
 use Rattle.rules.specs.Sheet.{Sheet, no_notice, max_sets, masters, csn_of, sets_of, allows, in_roster, sound_set, sound_notice, sound_sheet, bare, sheet_bytes, read_sheet}
@@ -106,7 +105,7 @@ gathered_sound e r os o f = go (spoils os) refl
     go false p = ap sound_sheet (gathered_holds e r os p) ∙ held_sound e r os o f p
 
 -- so it comes back from its bytes
-pub gathered_read : (e r : ℕ) (os : List Offer) → Head e r → Fair e r os → read_sheet (sheet_bytes (gathered e r os)) ≡ some (gathered e r os)
+pub gathered_read : (e r : ℕ) (os : List Offer) → Head e r → Fair e r os → read_sheet (sheet_bytes (gathered e r os)) ≡ Some (gathered e r os)
 gathered_read e r os o f = read_written (gathered e r os) (gathered_sound e r os o f)
 
 -- the sheet of no offers is the one that is opened

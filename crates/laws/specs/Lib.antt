@@ -12,6 +12,7 @@ pub mod Rising
 pub mod Distinct
 pub mod Winners
 pub mod Commits
+pub mod Chains
 pub mod Choice
 pub mod Applied
 pub mod NextRows

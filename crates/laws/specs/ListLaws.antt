@@ -1,5 +1,5 @@
 -- Laws of lists by their elements: `Sub xs ys` says that each element of xs is one of ys.
-use Rattle.std.specs.Prelude.{ℕ, zero, suc, ◌+◌, ◌<◌, ◌≤◌, ◌≡◌, Bool, get_or, if◌then◌else◌}
+use Rattle.std.specs.Prelude.{ℕ, zero, suc, ◌+◌, ◌<◌, ◌≤◌, ◌≡◌, Bool, get_or, if◌then◌else◌, None, Some}
 use Rattle.std.proofs.Math.Path.{refl, sym, ap}
 use Rattle.std.proofs.Common.{◌∙◌, arith}
 use Rattle.std.proofs.Math.Logic.{⊎_elim}
@@ -7,7 +7,7 @@ use Rattle.std.proofs.Math.Bool.{true, false}
 use Rattle.std.proofs.lemmas.Bool.{false≢true}
 use mathlib.Core.List.Memᴰ
 use mathlib.Core.List.{List, [], ◌∷◌, ◌++◌, map, Memᴰ, append_assoc, append-nil}
-use Rattle.std.proofs.Math.Option.{none, some, some-injective, none-ne-some}
+use Rattle.std.proofs.lemmas.Option.{same_Some, none-some}
 use Rattle.std.proofs.Math.Decide.{ℕ_discrete}
 use Rattle.laws.specs.Tests.{left, right, both, or→, or_left, or_right}
 use Rattle.rules.specs.Lists.{all, any, keep, first, flat, up_from}
@@ -67,23 +67,23 @@ module _ {A : Type 0} where
       go false k = k
 
   -- the first that passes
-  pub first→ : (p : A → Bool) (xs : List A) {x : A} → first p xs ≡ some x → Memᴰ x xs × (p x ≡ true)
+  pub first→ : (p : A → Bool) (xs : List A) {x : A} → first p xs ≡ Some x → Memᴰ x xs × (p x ≡ true)
   unfolding first
-  first→ p [] {x} e = absurd (none-ne-some x e)
+  first→ p [] {x} e = absurd (none-some x e)
   first→ p (y ∷ ys) {x} e = go (p y) refl e (first→ p ys)
     where
-      go : (t : Bool) → p y ≡ t → (if t then some y else first p ys) ≡ some x → (first p ys ≡ some x → Memᴰ x ys × (p x ≡ true))
+      go : (t : Bool) → p y ≡ t → (if t then Some y else first p ys) ≡ Some x → (first p ys ≡ Some x → Memᴰ x ys × (p x ≡ true))
           → Memᴰ x (y ∷ ys) × (p x ≡ true)
-      go true q e below = let w : y ≡ x = some-injective y x e in (Memᴰ.head (sym w), ap p (sym w) ∙ q)
+      go true q e below = let w : y ≡ x = same_Some y x e in (Memᴰ.head (sym w), ap p (sym w) ∙ q)
       go false q e below = let r = below e in (Memᴰ.tail r.0, r.1)
 
-  pub first_none : (p : A → Bool) (xs : List A) → first p xs ≡ none → (x : A) → Memᴰ x xs → p x ≡ false
+  pub first_none : (p : A → Bool) (xs : List A) → first p xs ≡ None → (x : A) → Memᴰ x xs → p x ≡ false
   unfolding first
   first_none p [] e x m = absurd (Memᴰ.not-nil m)
   first_none p (y ∷ ys) e x m = go (p y) refl e (first_none p ys)
     where
-      go : (t : Bool) → p y ≡ t → (if t then some y else first p ys) ≡ none → (first p ys ≡ none → (z : A) → Memᴰ z ys → p z ≡ false) → p x ≡ false
-      go true q e below = absurd (none-ne-some y (sym e))
+      go : (t : Bool) → p y ≡ t → (if t then Some y else first p ys) ≡ None → (first p ys ≡ None → (z : A) → Memᴰ z ys → p z ≡ false) → p x ≡ false
+      go true q e below = absurd (none-some y (sym e))
       go false q e below = ⊎_elim (λ c. ap p c ∙ q) (λ k. below e x k) (Memᴰ.cases_cons m)
 
 module _ {A B : Type 0} (f : A → List B) where

@@ -1,14 +1,13 @@
 -- How many rows the next register has, whatever chose the committed sets: the old ones and the committed inserts, less the committed
 -- deletes. So room freed by deletes in an epoch serves that epoch's inserts.
 use Prim.Native.Nat.{ℕ, suc, ◌+◌, ◌≤◌, ◌<◌}
-use Rattle.std.specs.Prelude.{◌≡◌, Bool, ltb, eqb, if◌then◌else◌}
+use Rattle.std.specs.Prelude.{◌≡◌, Bool, ltb, eqb, if◌then◌else◌, Option, None, Some}
 use Rattle.std.proofs.Math.Path.{refl, sym, ap}
 use Rattle.std.proofs.Common.{◌∙◌, ⊎_elim}
 use Rattle.std.proofs.Math.Bool.{true, false}
 use Rattle.std.proofs.lemmas.Bool.{false≢true}
 use mathlib.Core.List.Memᴰ
 use mathlib.Core.List.{List, [], ◌∷◌, map, Memᴰ}
-use Rattle.std.proofs.Math.Option.{Option, none, some}
 use native.Mathlib.Omega.{arith}
 use borrow.Author.Tests.{eqb-true}
 use Rattle.std.proofs.Math.ListN.{length, length-map}
@@ -117,8 +116,8 @@ module _ (g : Register) (s : Sheet) (c : List WriteSet) where
         go p.0.key (applied_to (applied c) p.0.key) refl q.1 p.2
       where
         go : (x : ℕ) (o : Option Record) → applied_to (applied c) x ≡ o → is_deleted o ≡ true → x ≡ k → Memᴰ k (map record_key (keep is_delete (applied c)))
-        go x none e d q = absurd (false≢true d)
-        go x (some r) e d q =
+        go x None e d q = absurd (false≢true d)
+        go x (Some r) e d q =
             let f = applied_to→ (applied c) x r e in Memᴰ.cast (sym q ∙ sym f.1) (Memᴰ.map record_key (→keep is_delete f.0 d))
 
     deletes_gone : Sub (map record_key (keep is_delete (applied c))) (map key_of (keep is_gone g.rows))

@@ -1,10 +1,9 @@
 -- What closing gives is a sound register, where it has at most 1,024 rows, whatever chose the committed sets; so it comes back from its
 -- bytes.
-use Rattle.std.specs.Prelude.{ℕ, ◌+◌, ◌<◌, ◌≤◌, ◌^◌, ◌≡◌, true, length}
+use Rattle.std.specs.Prelude.{ℕ, ◌+◌, ◌<◌, ◌≤◌, ◌^◌, ◌≡◌, true, length, Option, None, Some}
 use Rattle.std.proofs.Math.Path.{refl}
 use Rattle.std.proofs.Common.{◌∙◌, ap, ⊎_elim, arith, le-leb}
 use mathlib.Core.List.{List, Memᴰ}
-use Rattle.std.proofs.Math.Option.{Option, none, some}
 use Rattle.std.proofs.Math.Dec.{lit<}
 use Rattle.rules.specs.declared.mark.Mark.{Mark}
 use Rattle.rules.specs.declared.row.Row.{Row}
@@ -44,8 +43,8 @@ module _ (g : Register) (s : Sheet) (sound_g : sound_register g ≡ true) (sound
 
   mark_by_lem : (k : ℕ) (old : Mark) (o : Option WriteSet) → committed_on c k ≡ o → MarkSound (g.snapshot + 1) old → MarkSound (g.snapshot + 1) (mark_by s old o)
   unfolding mark_by
-  mark_by_lem k old none e m = m
-  mark_by_lem k old (some w) e m = set_mark w (h.in_sheet w (committed_on→ c k w e).0)
+  mark_by_lem k old None e m = m
+  mark_by_lem k old (Some w) e m = set_mark w (h.in_sheet w (committed_on→ c k w e).0)
 
   mark_after_lem : (k : ℕ) (old : Mark) → MarkSound (g.snapshot + 1) old → MarkSound (g.snapshot + 1) (mark_after s c k old)
   unfolding mark_after
@@ -61,8 +60,8 @@ module _ (g : Register) (s : Sheet) (sound_g : sound_register g ≡ true) (sound
 
   value_by_lem : (k old : ℕ) (o : Option Record) → applied_to (applied c) k ≡ o → old < 256 ^ 8 → value_by o old < 256 ^ 8
   unfolding value_by
-  value_by_lem k old none e v = v
-  value_by_lem k old (some r) e v = record_value r (applied_to→ (applied c) k r e).0
+  value_by_lem k old None e v = v
+  value_by_lem k old (Some r) e v = record_value r (applied_to→ (applied c) k r e).0
 
   -- an old row that remains
   remaining_sound : (row : Row) → Memᴰ row g.rows → sound_row (g.snapshot + 1) (remaining_row s c row) ≡ true
@@ -105,5 +104,5 @@ next_sound g s sound_g sound_s after few = sound_after g s sound_g sound_s after
 
 -- SO IT COMES BACK FROM ITS BYTES
 pub next_read : (g : Register) (s : Sheet) → sound_register g ≡ true → sound_sheet s ≡ true → s.epoch ≡ g.snapshot + 1 → length (next_rows g s) ≤ max_rows
-    → read_register (register_bytes (next g s)) ≡ some (next g s)
+    → read_register (register_bytes (next g s)) ≡ Some (next g s)
 next_read g s sound_g sound_s after few = read_written (next g s) (next_sound g s sound_g sound_s after few)

@@ -1,9 +1,9 @@
 -- An open set comes back from its struct, and the struct from what was read: one encoding. What of a struct's bytes decides that it is one,
 -- and that its record bytes are those of a set that can be offered just when it is not empty.
-use Rattle.std.specs.Prelude.{ℕ, zero, suc, ◌-◌, ◌*◌, ◌/◌, ◌≤◌, ◌≡◌, refl, Bool, true, List, [], ◌∷◌, ◌++◌, map, length, take, drop, replicate, leb, eqb, if◌then◌else◌}
+use Rattle.std.specs.Prelude.{ℕ, zero, suc, ◌-◌, ◌*◌, ◌/◌, ◌≤◌, ◌≡◌, refl, Bool, true, List, [], ◌∷◌, ◌++◌, map, length, take, drop, replicate, leb, eqb, if◌then◌else◌, None, Some}
 use Rattle.std.proofs.Common.{sym, ◌∙◌, ap, ap₂, append-nil, arith, eqb-true, eq-eqb, length-take, length-drop, take-append-drop, take_at, drop_at}
 use Rattle.std.proofs.Math.Bool.{false}
-use Rattle.std.proofs.Math.Option.{none, some, some-injective, none-ne-some}
+use Rattle.std.proofs.lemmas.Option.{same_Some, none-some}
 use Rattle.words.specs.Words.{Bytes}
 use Rattle.rules.specs.declared.row.Record.{Record}
 use Rattle.rules.specs.declared.desk.OpenSet.{OpenSet}
@@ -53,25 +53,25 @@ unfolding is_open_set
 open_is o h = (sym (same_open→ (open_set_of (open_records o)) o (right _ _ h)), left _ _ h)
 
 -- AN OPEN SET IS READ AS IT WAS WRITTEN
-pub open_written : (rs : List Record) → sound_open rs ≡ true → read_open (open_set_of rs) ≡ some rs
+pub open_written : (rs : List Record) → sound_open rs ≡ true → read_open (open_set_of rs) ≡ Some rs
 unfolding read_open
-open_written rs h = simp (is_open rs h) (ap some (open_records_lem rs ((open_says rs).told h).1.1))
+open_written rs h = simp (is_open rs h) (ap Some (open_records_lem rs ((open_says rs).told h).1.1))
 
 -- AND WHAT IS READ WAS WRITTEN SO
-pub written_open : (o : OpenSet) (rs : List Record) → read_open o ≡ some rs → (o ≡ open_set_of rs) × (sound_open rs ≡ true)
+pub written_open : (o : OpenSet) (rs : List Record) → read_open o ≡ Some rs → (o ≡ open_set_of rs) × (sound_open rs ≡ true)
 unfolding read_open
 written_open o rs e = go (is_open_set o) refl e
   where
-    go : (t : Bool) → is_open_set o ≡ t → (if t then some (open_records o) else none) ≡ some rs → (o ≡ open_set_of rs) × (sound_open rs ≡ true)
+    go : (t : Bool) → is_open_set o ≡ t → (if t then Some (open_records o) else None) ≡ Some rs → (o ≡ open_set_of rs) × (sound_open rs ≡ true)
     go true p q =
         let w = open_is o p in
-        let r = some-injective (open_records o) rs q in
+        let r = same_Some (open_records o) rs q in
         (w.0 ∙ ap open_set_of r, ap sound_open (sym r) ∙ w.1)
-    go false p q = absurd (none-ne-some rs q)
+    go false p q = absurd (none-some rs q)
 
 -- ONE ENCODING
 pub one_open : (rs qs : List Record) → sound_open rs ≡ true → sound_open qs ≡ true → open_set_of rs ≡ open_set_of qs → rs ≡ qs
-one_open rs qs h k e = some-injective rs qs (sym (open_written rs h) ∙ ap read_open e ∙ open_written qs k)
+one_open rs qs h k e = same_Some rs qs (sym (open_written rs h) ∙ ap read_open e ∙ open_written qs k)
 
 -- THE EMPTY ONE IS ALL ZERO
 pub empty_open : open_set_of [] ≡ empty_set
@@ -201,10 +201,10 @@ offered_part o = go (is_open_set o) refl
     go false h = rw (offered_none o h)
 
 -- AN OPEN SET OFFERS ITS RECORDS
-pub offers_own : (o : OpenSet) (rs : List Record) → read_open o ≡ some rs → offered_bytes o ≡ records_bytes rs
+pub offers_own : (o : OpenSet) (rs : List Record) → read_open o ≡ Some rs → offered_bytes o ≡ records_bytes rs
 unfolding read_open offered_bytes
 offers_own o rs e = go (is_open_set o) e
   where
-    go : (t : Bool) → (if t then some (open_records o) else none) ≡ some rs → (if t then records_bytes (open_records o) else []) ≡ records_bytes rs
-    go true q = ap records_bytes (some-injective (open_records o) rs q)
-    go false q = absurd (none-ne-some rs q)
+    go : (t : Bool) → (if t then Some (open_records o) else None) ≡ Some rs → (if t then records_bytes (open_records o) else []) ≡ records_bytes rs
+    go true q = ap records_bytes (same_Some (open_records o) rs q)
+    go false q = absurd (none-some rs q)

@@ -1,11 +1,10 @@
 -- Lists by their places: members, the first that passes a test from a place on, those that pass, and numbers that rise.
 use Prim.Native.Nat.{ℕ, zero, suc, ◌+◌, ◌≤◌, ◌<◌}
-use Rattle.std.specs.Prelude.{◌≡◌, Bool, get_or, take, drop, set, if◌then◌else◌}
+use Rattle.std.specs.Prelude.{◌≡◌, Bool, get_or, take, drop, set, if◌then◌else◌, None, Some}
 use Rattle.std.proofs.Math.Path.{refl, sym, ap}
 use Rattle.std.proofs.Common.{◌∙◌, add-zero, add_comm, add_assoc, below_more, take_all, drop-cons, get_or-set_same, get_or-set_other}
 use Rattle.std.proofs.Math.Bool.{true, false}
 use mathlib.Core.List.{List, [], ◌∷◌, map, Memᴰ}
-use Rattle.std.proofs.Math.Option.{none, some}
 use Rattle.std.proofs.Math.Numerals.{add-one}
 use native.Mathlib.Omega.{arith}
 use Rattle.std.proofs.Math.ListN.{length}
@@ -34,11 +33,11 @@ module _ {A : Type 0} (p : A → Bool) (d : A) (xs : List A) (j : ℕ) where
   unfolding first
   first_skip h e = ap (first p) (drop-cons xs j d h) ∙ rw (e, add-one j)
 
-  pub first_stop : j < length xs → p (get_or xs j d) ≡ true → first p (drop j xs) ≡ some (get_or xs j d)
+  pub first_stop : j < length xs → p (get_or xs j d) ≡ true → first p (drop j xs) ≡ Some (get_or xs j d)
   unfolding first
   first_stop h e = ap (first p) (drop-cons xs j d h) ∙ rw e
 
-  pub first_end : length xs ≤ j → first p (drop j xs) ≡ none
+  pub first_end : length xs ≤ j → first p (drop j xs) ≡ None
   unfolding first
   first_end h = ap (first p) (drop_none d xs j h)
 

@@ -1,7 +1,6 @@
 -- Registers read back as they were written, and each has one encoding.
-use Rattle.std.specs.Prelude.{ℕ, zero, suc, ◌+◌, ◌*◌, ◌^◌, ◌<◌, ◌≤◌, ◌≡◌, refl, true, false, List, [], ◌∷◌, ◌++◌, map, length, get_or, drop}
+use Rattle.std.specs.Prelude.{ℕ, zero, suc, ◌+◌, ◌*◌, ◌^◌, ◌<◌, ◌≤◌, ◌≡◌, refl, true, false, List, [], ◌∷◌, ◌++◌, map, length, get_or, drop, None, Some}
 use Rattle.std.proofs.Common.{sym, ◌∙◌, ap, ap₂, add_assoc, arith, leb-true, le-leb, length-append}
-use Rattle.std.proofs.Math.Option.{none, some}
 use Rattle.words.specs.Words.{Bytes, le, word}
 use Rattle.words.specs.WordLaws.{le_length, word_le, word_drop}
 use Rattle.rules.specs.declared.row.Row.{Row}
@@ -141,12 +140,12 @@ register_decoded g e =
     λ i. record { snapshot = snapshot_written g.snapshot (le 4 (length g.rows)) (flat row_bytes g.rows) w.snapshot i; rows = rs i }
 
 -- A SOUND REGISTER COMES BACK FROM ITS BYTES
-pub read_written : (g : Register) → sound_register g ≡ true → read_register (register_bytes g) ≡ some g
+pub read_written : (g : Register) → sound_register g ≡ true → read_register (register_bytes g) ≡ Some g
 unfolding read_register
 read_written g e = read_encoded register_in sound_register register_bytes g (register_decoded g e) e
 
 -- WHAT IS READ IS SOUND, AND WRITTEN AS THE BYTES THAT WERE READ
-pub written_read : (b : Bytes) (g : Register) → read_register b ≡ some g → (b ≡ register_bytes g) × (sound_register g ≡ true)
+pub written_read : (b : Bytes) (g : Register) → read_register b ≡ Some g → (b ≡ register_bytes g) × (sound_register g ≡ true)
 unfolding read_register
 written_read b g e = read_exact register_in sound_register register_bytes b g e
 
@@ -166,14 +165,14 @@ register_yes b s e = both s (ap (λ (l : Bytes). same l b) e ∙ same_refl b)
 pub register_is : (g : Register) → sound_register g ≡ true → is_register (register_bytes g) ≡ true
 register_is g e = let d = register_decoded g e in register_yes (register_bytes g) (ap sound_register d ∙ e) (ap register_bytes d)
 
-pub register_read : (b : Bytes) → is_register b ≡ true → read_register b ≡ some (register_in b)
+pub register_read : (b : Bytes) → is_register b ≡ true → read_register b ≡ Some (register_in b)
 unfolding is_register read_register read
 register_read b e = rw e
 
-pub register_unread : (b : Bytes) → is_register b ≡ false → read_register b ≡ none
+pub register_unread : (b : Bytes) → is_register b ≡ false → read_register b ≡ None
 unfolding is_register read_register read
 register_unread b e = rw e
 
 -- EQUAL CONTENTS ARE EQUAL BYTES
-pub one_encoding : (b c : Bytes) (g : Register) → read_register b ≡ some g → read_register c ≡ some g → b ≡ c
+pub one_encoding : (b c : Bytes) (g : Register) → read_register b ≡ Some g → read_register c ≡ Some g → b ≡ c
 one_encoding b c g p q = (written_read b g p).0 ∙ sym (written_read c g q).0

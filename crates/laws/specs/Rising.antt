@@ -1,6 +1,6 @@
 -- Lists whose numbers strictly ascend, over the number f that each element has: `Rising f xs` says that each one's number is below all
 -- later ones'. Two such lists of the same elements are equal, and one of fewer elements is no longer.
-use Rattle.std.specs.Prelude.{ℕ, ◌<◌, ◌≤◌, ◌≡◌, ◌⊎◌, Bool, length, if◌then◌else◌}
+use Rattle.std.specs.Prelude.{ℕ, ◌<◌, ◌≤◌, ◌≡◌, ◌⊎◌, Bool, length, if◌then◌else◌, Some}
 use Rattle.std.proofs.Math.Path.{refl, ap}
 use Rattle.std.proofs.Common.{sym, ◌∙◌, ap₂, arith}
 use Rattle.std.proofs.Math.Logic.{⊎_elim}
@@ -8,7 +8,7 @@ use Rattle.std.proofs.Math.Bool.{true, false}
 use Rattle.std.proofs.lemmas.Bool.{false≢true}
 use mathlib.Core.List.Memᴰ
 use mathlib.Core.List.{List, [], ◌∷◌, ◌++◌, map, Memᴰ}
-use Rattle.std.proofs.Math.Option.{some, some-injective}
+use Rattle.std.proofs.lemmas.Option.{same_Some}
 use borrow.Author.Tests.{ltb-true, lt-ltb}
 use Rattle.rules.specs.Lists.{keep, first, ascend_from, ascend}
 use Rattle.laws.specs.Tests.{left, right, both}
@@ -73,7 +73,7 @@ module _ {A : Type 0} (f : A → ℕ) where
       (Memᴰ.cases_cons m)
 
   -- the first that passes has the smallest number of those that pass
-  pub rising_first : (p : A → Bool) {xs : List A} {x y : A} → Rising xs → first p xs ≡ some x → Memᴰ y xs → p y ≡ true → f x ≤ f y
+  pub rising_first : (p : A → Bool) {xs : List A} {x y : A} → Rising xs → first p xs ≡ Some x → Memᴰ y xs → p y ≡ true → f x ≤ f y
   unfolding first
   rising_first p nil e m t = absurd (Memᴰ.not-nil m)
   rising_first p {x} {y} (cons {x = z} {xs = zs} g r) e m t = go (p z) refl e (λ d k. rising_first p r d k t)
@@ -81,8 +81,8 @@ module _ {A : Type 0} (f : A → ℕ) where
       at_head : z ≡ x → (y ≡ z) ⊎ Memᴰ y zs → f x ≤ f y
       at_head c d = let a = ap f c in ⊎_elim (λ i. let b = ap f i in omega arith) (λ i. let b = g y i in omega arith) d
 
-      go : (u : Bool) → p z ≡ u → (if u then some z else first p zs) ≡ some x → (first p zs ≡ some x → Memᴰ y zs → f x ≤ f y) → f x ≤ f y
-      go true q e below = at_head (some-injective z x e) (Memᴰ.cases_cons m)
+      go : (u : Bool) → p z ≡ u → (if u then Some z else first p zs) ≡ Some x → (first p zs ≡ Some x → Memᴰ y zs → f x ≤ f y) → f x ≤ f y
+      go true q e below = at_head (same_Some z x e) (Memᴰ.cases_cons m)
       go false q e below = ⊎_elim (λ c. absurd (false≢true (sym q ∙ ap p (sym c) ∙ t))) (λ k. below e k) (Memᴰ.cases_cons m)
 
   -- what is above the head of one list, and in the other, is in the other's tail

@@ -1,8 +1,7 @@
 -- Depots that gathered the same offers close alike, each with buffers of its own: how long they are makes no difference, if they are long
 -- enough.
-use Rattle.std.specs.Prelude.{ℕ, ◌≤◌, ◌≡◌, refl}
+use Rattle.std.specs.Prelude.{ℕ, ◌≤◌, ◌≡◌, refl, Option, None, Some}
 use Rattle.std.proofs.Common.{sym, ◌∙◌, ap, le-ltb}
-use Rattle.std.proofs.Math.Option.{Option, none, some}
 use Rattle.words.specs.Words.{Bytes}
 use Rattle.rules.specs.Lists.{◌or◌}
 use Rattle.rules.specs.Register.{Register, read_register}
@@ -19,9 +18,9 @@ pub record LongEnough (next_room room : ℕ) : Type 0 where
 -- such buffers do what the shortest such ones do
 shortest : (g : Option Register) (s : Option Sheet) (n m : ℕ) → LongEnough n m → close_sheet g s n m ≡ close_sheet g s register_room verdict_room
 unfolding close_sheet ◌or◌
-shortest none s n m l = refl
-shortest (some g) none n m l = refl
-shortest (some g) (some s) n m l = simp (le-ltb n register_room l.for_register, le-ltb m verdict_room l.for_verdicts)
+shortest None s n m l = refl
+shortest (Some g) None n m l = refl
+shortest (Some g) (Some s) n m l = simp (le-ltb n register_room l.for_register, le-ltb m verdict_room l.for_verdicts)
 
 -- CLOSING DOES NOT DEPEND ON HOW LONG THE BUFFERS ARE, IF THEY ARE LONG ENOUGH
 pub rooms_alike : (g a : Bytes) (n m n' m' : ℕ) → LongEnough n m → LongEnough n' m' → close_outcome g a n m ≡ close_outcome g a n' m'

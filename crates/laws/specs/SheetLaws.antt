@@ -1,7 +1,6 @@
 -- A sheet comes back from its bytes, and the bytes from what was read: one encoding. The same of an offered set's records.
-use Rattle.std.specs.Prelude.{ℕ, zero, suc, ◌+◌, ◌*◌, ◌^◌, ◌<◌, ◌≤◌, ◌≡◌, refl, Bool, true, false, List, [], ◌∷◌, ◌++◌, length, get_or, take, drop, eqb}
+use Rattle.std.specs.Prelude.{ℕ, zero, suc, ◌+◌, ◌*◌, ◌^◌, ◌<◌, ◌≤◌, ◌≡◌, refl, Bool, true, false, List, [], ◌∷◌, ◌++◌, length, get_or, take, drop, eqb, None, Some}
 use Rattle.std.proofs.Common.{sym, ◌∙◌, ap, ap₂, append_assoc, append-nil, add-zero, arith, leb-true, eqb-true, length-append, take_at, drop_at, drop-drop, get_or-drop}
-use Rattle.std.proofs.Math.Option.{none, some}
 use Rattle.words.specs.Words.{Bytes, le, word, part}
 use Rattle.words.specs.WordLaws.{word_drop, word_le}
 use Rattle.rules.specs.declared.row.Record.{Record}
@@ -188,7 +187,7 @@ sheet_decoded s e =
     }
 
 -- A SOUND SHEET COMES BACK FROM ITS BYTES
-pub read_written : (s : Sheet) → sound_sheet s ≡ true → read_sheet (sheet_bytes s) ≡ some s
+pub read_written : (s : Sheet) → sound_sheet s ≡ true → read_sheet (sheet_bytes s) ≡ Some s
 unfolding read_sheet
 read_written s e = read_encoded sheet_in sound_sheet sheet_bytes s (sheet_decoded s e) e
 
@@ -208,29 +207,29 @@ pub sheet_exact : (b : Bytes) → is_sheet b ≡ true → sheet_bytes (sheet_in 
 unfolding is_sheet well_formed
 sheet_exact b e = same→ _ _ (right _ _ e)
 
-pub sheet_read : (b : Bytes) → is_sheet b ≡ true → read_sheet b ≡ some (sheet_in b)
+pub sheet_read : (b : Bytes) → is_sheet b ≡ true → read_sheet b ≡ Some (sheet_in b)
 unfolding is_sheet read_sheet read
 sheet_read b e = simp e
 
-pub sheet_unread : (b : Bytes) → is_sheet b ≡ false → read_sheet b ≡ none
+pub sheet_unread : (b : Bytes) → is_sheet b ≡ false → read_sheet b ≡ None
 unfolding is_sheet read_sheet read
 sheet_unread b e = simp e
 
-pub records_read : (b : Bytes) → are_records b ≡ true → read_records b ≡ some (offered_records b)
+pub records_read : (b : Bytes) → are_records b ≡ true → read_records b ≡ Some (offered_records b)
 unfolding are_records read_records read
 records_read b e = simp e
 
-pub records_unread : (b : Bytes) → are_records b ≡ false → read_records b ≡ none
+pub records_unread : (b : Bytes) → are_records b ≡ false → read_records b ≡ None
 unfolding are_records read_records read
 records_unread b e = simp e
 
 -- WHAT IS READ IS SOUND, AND IS WRITTEN AS THE BYTES THAT WERE READ
-pub written_read : (b : Bytes) (s : Sheet) → read_sheet b ≡ some s → (b ≡ sheet_bytes s) × (sound_sheet s ≡ true)
+pub written_read : (b : Bytes) (s : Sheet) → read_sheet b ≡ Some s → (b ≡ sheet_bytes s) × (sound_sheet s ≡ true)
 unfolding read_sheet
 written_read b s e = read_exact sheet_in sound_sheet sheet_bytes b s e
 
 -- the same of the records that an offered set comes with
-pub records_written : (rs : List Record) → sound_records rs ≡ true → read_records (records_bytes rs) ≡ some rs
+pub records_written : (rs : List Record) → sound_records rs ≡ true → read_records (records_bytes rs) ≡ Some rs
 unfolding read_records sound_records offered_records
 records_written rs e =
     read_encoded offered_records sound_records records_bytes rs
@@ -238,10 +237,10 @@ records_written rs e =
     ∙ records_at rs (records_bytes rs) 0 [] (right _ _ (right _ _ (right _ _ e))) (sym (append-nil (records_bytes rs))))
     e
 
-pub written_records : (b : Bytes) (rs : List Record) → read_records b ≡ some rs → (b ≡ records_bytes rs) × (sound_records rs ≡ true)
+pub written_records : (b : Bytes) (rs : List Record) → read_records b ≡ Some rs → (b ≡ records_bytes rs) × (sound_records rs ≡ true)
 unfolding read_records
 written_records b rs e = read_exact offered_records sound_records records_bytes b rs e
 
 -- so two byte lists that are the same sheet are equal
-pub one_encoding : (a b : Bytes) (s : Sheet) → read_sheet a ≡ some s → read_sheet b ≡ some s → a ≡ b
+pub one_encoding : (a b : Bytes) (s : Sheet) → read_sheet a ≡ Some s → read_sheet b ≡ Some s → a ≡ b
 one_encoding a b s p q = (written_read a s p).0 ∙ sym (written_read b s q).0

@@ -1,8 +1,8 @@
 -- Tags and keys: the tag of a key is right and has that key; a right tag is the tag of its key, so two keys have two tags and no station has two.
-use Rattle.std.specs.Prelude.{ℕ, zero, suc, ◌+◌, ◌*◌, ◌/◌, ◌%◌, ◌^◌, ◌≤◌, ◌<◌, ◌≡◌, refl, Bool, true, false, [], ◌∷◌, ◌++◌, length, get_or, take, if◌then◌else◌}
+use Rattle.std.specs.Prelude.{ℕ, zero, suc, ◌+◌, ◌*◌, ◌/◌, ◌%◌, ◌^◌, ◌≤◌, ◌<◌, ◌≡◌, refl, Bool, true, false, [], ◌∷◌, ◌++◌, length, get_or, take, if◌then◌else◌, None, Some}
 use Rattle.std.proofs.Math.Path.{sym, ap}
 use Rattle.std.proofs.Common.{◌∙◌, add-mul, mul_assoc, mul-le-mul_right, lit<, length-take, length-append, take-suc, take_all, take_at}
-use Rattle.std.proofs.Math.Option.{none, some, some-injective, none-ne-some}
+use Rattle.std.proofs.lemmas.Option.{same_Some, none-some}
 use Rattle.std.proofs.Math.Nat.{pow-succ', one-le-pow, mul-add-div_right, div-eq_of_lt}
 use native.Mathlib.Omega.{arith}
 use Rattle.std.proofs.Math.Arith.{mod-mul}
@@ -91,7 +91,7 @@ pub tag_right : (k : ℕ) → right_tag (tag_of k) ≡ true
 tag_right k = (right_is (tag_of k)).test (tag_length k, (tag_digits k, tag_ends k))
 
 -- a station's tag has its key, which is in range
-pub tag_is : (t : Bytes) → is_tag t ≡ true → (key_of_tag t ≡ some (key_in t)) × (is_key (key_in t) ≡ true)
+pub tag_is : (t : Bytes) → is_tag t ≡ true → (key_of_tag t ≡ Some (key_in t)) × (is_key (key_in t) ≡ true)
 unfolding key_of_tag is_tag
 tag_is t h = (simp h, right _ _ h)
 
@@ -101,8 +101,8 @@ unfolding is_tag
 tag_of_is k h = let e = tag_key k ((key_is k).told h).1 in (both (tag_right k) (ap is_key e ∙ h), e)
 
 -- AND HAS THAT KEY
-pub key_of_tag_lem : (k : ℕ) → is_key k ≡ true → key_of_tag (tag_of k) ≡ some k
-key_of_tag_lem k h = let w = tag_of_is k h in (tag_is (tag_of k) w.0).0 ∙ ap some w.1
+pub key_of_tag_lem : (k : ℕ) → is_key k ≡ true → key_of_tag (tag_of k) ≡ Some k
+key_of_tag_lem k h = let w = tag_of_is k h in (tag_is (tag_of k) w.0).0 ∙ ap Some w.1
 
 -- ---- the key of a tag
 
@@ -173,17 +173,17 @@ tag_only t r =
         omega arith
 
 -- NO STATION HAS TWO TAGS
-pub one_tag : (t : Bytes) (k : ℕ) → key_of_tag t ≡ some k → t ≡ tag_of k
+pub one_tag : (t : Bytes) (k : ℕ) → key_of_tag t ≡ Some k → t ≡ tag_of k
 unfolding key_of_tag is_tag
 one_tag t k e = go (right_tag t and is_key (key_in t)) refl e
   where
-    go : (u : Bool) → (right_tag t and is_key (key_in t)) ≡ u → (if u then some (key_in t) else none) ≡ some k → t ≡ tag_of k
-    go true p q = sym (tag_only t (left _ _ p)) ∙ ap tag_of (some-injective (key_in t) k q)
-    go false p q = absurd (none-ne-some k q)
+    go : (u : Bool) → (right_tag t and is_key (key_in t)) ≡ u → (if u then Some (key_in t) else None) ≡ Some k → t ≡ tag_of k
+    go true p q = sym (tag_only t (left _ _ p)) ∙ ap tag_of (same_Some (key_in t) k q)
+    go false p q = absurd (none-some k q)
 
 -- TWO KEYS HAVE TWO TAGS
 pub two_tags : (k j : ℕ) → is_key k ≡ true → is_key j ≡ true → tag_of k ≡ tag_of j → k ≡ j
-two_tags k j h i e = some-injective k j (sym (key_of_tag_lem k h) ∙ ap key_of_tag e ∙ key_of_tag_lem j i)
+two_tags k j h i e = same_Some k j (sym (key_of_tag_lem k h) ∙ ap key_of_tag e ∙ key_of_tag_lem j i)
 
 -- ---- station 572, by computation
 
@@ -192,16 +192,16 @@ abbrev pub tag572 : Bytes
 tag572 = 48 ∷ 48 ∷ 48 ∷ 48 ∷ 48 ∷ 48 ∷ 48 ∷ 53 ∷ 55 ∷ 50 ∷ 52 ∷ []
 
 -- STATION 572 IS TAGGED 00000005724
-pub station_572 : (tag_of 572 ≡ tag572) × (key_of_tag tag572 ≡ some 572)
+pub station_572 : (tag_of 572 ≡ tag572) × (key_of_tag tag572 ≡ Some 572)
 unfolding run_tag
 station_572 = (refl, refl)
 
 -- 00000000000 is a right tag, of no station
-pub no_station_0 : (right_tag (tag_of 0) ≡ true) × (key_of_tag (tag_of 0) ≡ none)
+pub no_station_0 : (right_tag (tag_of 0) ≡ true) × (key_of_tag (tag_of 0) ≡ None)
 unfolding run_tag
 no_station_0 = (refl, refl)
 
 -- the last key has a tag, the number above it none
-pub last_station : (key_of_tag (tag_of 4294967295) ≡ some 4294967295) × (key_of_tag (tag_of 4294967296) ≡ none)
+pub last_station : (key_of_tag (tag_of 4294967295) ≡ Some 4294967295) × (key_of_tag (tag_of 4294967296) ≡ None)
 unfolding run_tag
 last_station = (refl, refl)

@@ -1,12 +1,11 @@
 -- WHOLE OR NOT AT ALL, whatever chose the committed sets: after a commit every record of the set stands in the next rows, and each of
 -- them bears the set's mark; a row that no committed set names stands as it stood, mark included, and an absent key stays absent.
-use Rattle.std.specs.Prelude.{ℕ, ◌≡◌}
+use Rattle.std.specs.Prelude.{ℕ, ◌≡◌, Option, None, Some}
 use Rattle.std.proofs.Math.Path.{refl, sym, ap}
 use Rattle.std.proofs.Common.{◌∙◌, arith}
 use Rattle.std.proofs.Math.Logic.{⊎_elim}
 use Rattle.std.proofs.Math.Bool.{true, false, false≢true}
 use mathlib.Core.List.{List, [], ◌∷◌, Memᴰ}
-use Rattle.std.proofs.Math.Option.{Option, none, some}
 use borrow.Author.Tests.{eqb-true, eq-eqb, ne_eqb}
 use Rattle.std.proofs.Math.Dec.{eqb}
 use Rattle.rules.specs.declared.mark.Mark.{Mark}
@@ -68,7 +67,7 @@ module _ (g : Register) (s : Sheet) (c : List WriteSet) where
             ∙ ap (mark_by s old) (committed_on_is g s c h x.key w i n)
 
     module _ (sound : sound_sheet s ≡ true) where
-      applied_is : (r : Record) → Memᴰ r (applied c) → applied_to (applied c) r.key ≡ some r
+      applied_is : (r : Record) → Memᴰ r (applied c) → applied_to (applied c) r.key ≡ Some r
       applied_is r m = applied_to_is (applied c) r (applied_each g s c h sound) m
 
       pub is_deleted_lem : (r : Record) → Memᴰ r (applied c) → is_deleted (applied_to (applied c) r.key) ≡ eqb r.kind delete
@@ -112,7 +111,7 @@ module _ (g : Register) (s : Sheet) (c : List WriteSet) where
 
   -- ---- a key that no committed set names
 
-  unnamed_none : (k : ℕ) → Unnamed c k → applied_to (applied c) k ≡ none
+  unnamed_none : (k : ℕ) → Unnamed c k → applied_to (applied c) k ≡ None
   unnamed_none k u =
       applied_to_none (applied c) k
       (λ r m e. let a = applied→ c r m in u a.set a.committed (ap (names a.set) (sym e) ∙ names_own a.set r a.in_set))

@@ -1,12 +1,11 @@
 -- ONE WINNER: every key that a fit set of a sound sheet claims has exactly one winner, a claimant that precedes all others.
-use Rattle.std.specs.Prelude.{ℕ, ◌≡◌, ◌⊎◌, Bool, true, false, eqb}
+use Rattle.std.specs.Prelude.{ℕ, ◌≡◌, ◌⊎◌, Bool, true, false, eqb, Option, None, Some}
 use Rattle.std.proofs.Math.Path.{refl, ap}
 use Rattle.std.proofs.Common.{sym, ◌∙◌}
 use Rattle.std.proofs.Math.Logic.{inl, inr, ⊎_elim}
 use Rattle.std.proofs.lemmas.Bool.{false≢true}
 use mathlib.Core.List.Memᴰ
 use mathlib.Core.List.{List, [], ◌∷◌, Memᴰ}
-use Rattle.std.proofs.Math.Option.{Option, none, some}
 use Rattle.std.proofs.Math.Decide.{ℕ_discrete}
 use borrow.Author.Tests.{eqb-true, eq-eqb}
 use Rattle.rules.specs.declared.mark.Mark.{Mark}
@@ -101,7 +100,7 @@ module _ (g : Register) (s : Sheet) (k : ℕ) where
   wins_leads : (w : WriteSet) → Wins w → Leads s (claimants g s k) w
   wins_leads w h v m = h.precedes_others v (claimants→ v m)
 
-  pub winner→ : (w : WriteSet) → Apart s.sets → winner g s k ≡ some w → Wins w
+  pub winner→ : (w : WriteSet) → Apart s.sets → winner g s k ≡ Some w → Wins w
   unfolding winner
   winner→ w a e =
       let r = first→ (foremost s (claimants g s k)) (claimants g s k) e in
@@ -112,23 +111,23 @@ module _ (g : Register) (s : Sheet) (k : ℕ) where
       }
 
   -- a key that is claimed has a winner
-  pub winner_exists : (w : WriteSet) → Apart s.sets → Claims w → (v : WriteSet) × (winner g s k ≡ some v)
+  pub winner_exists : (w : WriteSet) → Apart s.sets → Claims w → (v : WriteSet) × (winner g s k ≡ Some v)
   unfolding winner
   winner_exists w a m = go (first (foremost s (claimants g s k)) (claimants g s k)) refl
     where
-      go : (o : Option WriteSet) → first (foremost s (claimants g s k)) (claimants g s k) ≡ o → (v : WriteSet) × (first (foremost s (claimants g s k)) (claimants g s k) ≡ some v)
-      go (some v) e = (v, e)
-      go none e =
+      go : (o : Option WriteSet) → first (foremost s (claimants g s k)) (claimants g s k) ≡ o → (v : WriteSet) × (first (foremost s (claimants g s k)) (claimants g s k) ≡ Some v)
+      go (Some v) e = (v, e)
+      go None e =
           let r = leader_of s (claimants g s k) (claimants_apart a) (→claimants w m) in
           absurd (false≢true (sym (first_none (foremost s (claimants g s k)) (claimants g s k) e r.0 r.1) ∙ →foremost s (claimants g s k) r.0 r.2))
 
   -- and one that is not has none
-  pub winner_none : Apart s.sets → ((w : WriteSet) → Claims w → ⊥) → winner g s k ≡ none
+  pub winner_none : Apart s.sets → ((w : WriteSet) → Claims w → ⊥) → winner g s k ≡ None
   winner_none a h = go (winner g s k) refl
     where
-      go : (o : Option WriteSet) → winner g s k ≡ o → o ≡ none
-      go none e = refl
-      go (some w) e = absurd (h w (winner→ w a e).claimant)
+      go : (o : Option WriteSet) → winner g s k ≡ o → o ≡ None
+      go None e = refl
+      go (Some w) e = absurd (h w (winner→ w a e).claimant)
 
   -- no two win it
   pub wins_one : (v w : WriteSet) → Wins v → Wins w → v ≡ w
@@ -136,28 +135,28 @@ module _ (g : Register) (s : Sheet) (k : ℕ) where
       leads_one s (claimants g s k) v w (→claimants v p.claimant) (→claimants w q.claimant) (wins_leads v p) (wins_leads w q)
 
   -- a claimant that precedes all others is the winner
-  pub winner_is : (w : WriteSet) → Apart s.sets → Wins w → winner g s k ≡ some w
-  winner_is w a h = let r = winner_exists w a h.claimant in r.1 ∙ ap some (wins_one r.0 w (winner→ r.0 a r.1) h)
+  pub winner_is : (w : WriteSet) → Apart s.sets → Wins w → winner g s k ≡ Some w
+  winner_is w a h = let r = winner_exists w a h.claimant in r.1 ∙ ap Some (wins_one r.0 w (winner→ r.0 a r.1) h)
 
   -- the test of the definition, as a fact
-  is_set→ : (w : WriteSet) (o : Option WriteSet) → is_set w o ≡ true → (v : WriteSet) × (o ≡ some v) × (v.csn ≡ w.csn)
+  is_set→ : (w : WriteSet) (o : Option WriteSet) → is_set w o ≡ true → (v : WriteSet) × (o ≡ Some v) × (v.csn ≡ w.csn)
   unfolding is_set
-  is_set→ w none e = absurd (false≢true e)
-  is_set→ w (some v) e = (v, refl, eqb-true v.csn w.csn e)
+  is_set→ w None e = absurd (false≢true e)
+  is_set→ w (Some v) e = (v, refl, eqb-true v.csn w.csn e)
 
-  pub wins→ : (w : WriteSet) → Apart s.sets → Memᴰ w s.sets → wins g s w k ≡ true → winner g s k ≡ some w
+  pub wins→ : (w : WriteSet) → Apart s.sets → Memᴰ w s.sets → wins g s w k ≡ true → winner g s k ≡ Some w
   unfolding wins
   wins→ w a m e =
       let r = is_set→ w (winner g s k) e in
-      r.1 ∙ ap some (a r.0 w (winner→ r.0 a r.1).claimant.in_sheet m r.2)
+      r.1 ∙ ap Some (a r.0 w (winner→ r.0 a r.1).claimant.in_sheet m r.2)
 
-  pub →wins : (w : WriteSet) → winner g s k ≡ some w → wins g s w k ≡ true
+  pub →wins : (w : WriteSet) → winner g s k ≡ Some w → wins g s w k ≡ true
   unfolding wins is_set
   →wins w e = ap (is_set w) e ∙ eq-eqb w.csn w.csn refl
 
 -- EVERY KEY CLAIMED BY A FIT SET OF A SOUND SHEET HAS EXACTLY ONE WINNER, A CLAIMANT THAT PRECEDES ALL OTHERS
 pub one_winner : (g : Register) (s : Sheet) (k : ℕ) (w : WriteSet) → sound_sheet s ≡ true → Claims g s k w
-    → (v : WriteSet) × (winner g s k ≡ some v) × Wins g s k v × ((u : WriteSet) → Wins g s k u → u ≡ v)
+    → (v : WriteSet) × (winner g s k ≡ Some v) × Wins g s k v × ((u : WriteSet) → Wins g s k u → u ≡ v)
 one_winner g s k w e c =
     let a = sheet_apart s e in
     let r = winner_exists g s k w a c in

@@ -1,21 +1,19 @@
 -- WRONG VERSIONS OF CLOSING, each a class of closings, and each rejected by demand 2 on an example: those that document 01 names, and
 -- two ways to mark rows that L1 rules out.
-use Rattle.std.specs.Prelude.{ℕ, ◌+◌, ◌≤◌, ◌<◌, ◌≡◌, refl, true, length, get_or, take, replicate, eqb}
+use Rattle.std.specs.Prelude.{ℕ, ◌+◌, ◌≤◌, ◌<◌, ◌≡◌, refl, true, length, get_or, take, replicate, eqb, Some, Ok, Err}
 use Rattle.std.proofs.Common.{sym, ◌∙◌, ap, arith}
 use mathlib.Core.List.{List, [], ◌∷◌, Memᴰ}
-use Rattle.std.proofs.Math.Option.{some}
 use Rattle.std.proofs.lemmas.List.{length-replicate, get_or-replicate}
 use Rattle.words.specs.Words.{Bytes}
 use Rattle.rules.specs.declared.mark.Mark.{Mark}
 use Rattle.rules.specs.declared.row.Row.{Row}
 use Rattle.rules.specs.declared.row.Record.{Record}
 use Rattle.rules.specs.declared.answer.Refusal.{Refusal}
-use Rattle.rules.specs.declared.answer.Closed.{Closed}
-use Rattle.rules.specs.declared.answer.Closed.TheVariants.{Wrote, Refused}
 use Rattle.rules.specs.Lists.{any}
 use Rattle.rules.specs.Register.{Register, register_bytes, read_register}
 use Rattle.rules.specs.Sheet.{WriteSet, Sheet, read_sheet}
 use Rattle.rules.specs.Closing.{mark_in, winner, committed}
+use Rattle.rules.specs.Answers.{ClosedAnswer, lengths}
 use Rattle.rules.specs.Refused.{Outcome, refused, done, Closing, register_room, verdict_room, close_outcome, run_refused}
 use Rattle.rules.specs.Promises.{over}
 use Rattle.laws.specs.Examples.{Step, notice, sheet_after, R, A, C, three_rows}
@@ -24,11 +22,11 @@ use Rattle.laws.specs.Closers.{Left, Closer, writes, Demand2, closes→}
 
 -- REFUSING ALWAYS, with whatever refusal, whatever is left in the buffers
 abbrev pub RefusesAlways : Closer → Type 0
-RefusesAlways c = (r t next verdicts : Bytes) → (x : Refusal) × ((c r t next verdicts).answer ≡ Refused x)
+RefusesAlways c = (r t next verdicts : Bytes) → (x : Refusal) × ((c r t next verdicts).answer ≡ Err x)
 
 -- ANSWERING ALWAYS ALIKE: one answer for everything, whatever is left in the buffers
 abbrev pub AnswersAlike : Closer → Type 0
-AnswersAlike c = (a : Closed) × ((r t next verdicts : Bytes) → (c r t next verdicts).answer ≡ a)
+AnswersAlike c = (a : ClosedAnswer) × ((r t next verdicts : Bytes) → (c r t next verdicts).answer ≡ a)
 
 -- DOING NOTHING: both buffers are left as they were, and success is answered, or whatever else
 abbrev pub DoesNothing : Closer → Type 0
@@ -38,21 +36,21 @@ DoesNothing c = (r t next verdicts : Bytes) → ((c r t next verdicts).next ≡ 
 pub record WritesRow (c : Closer) (r t next verdicts : Bytes) (x : Row) : Type 0 where
   pub register_long : ℕ
   pub verdicts_long : ℕ
-  pub answers : (c r t next verdicts).answer ≡ Wrote register_long verdicts_long
+  pub answers : (c r t next verdicts).answer ≡ lengths register_long verdicts_long
   pub register : Register
-  pub reads : read_register (take register_long (c r t next verdicts).next) ≡ some register
+  pub reads : read_register (take register_long (c r t next verdicts).next) ≡ Some register
   pub in_it : Memᴰ x register.rows
 
 -- STAMPING BY LOSERS, the rule before L1: a row that has a winner bears its mark, even if that set lost elsewhere
 abbrev pub LosersStamp : Closer → Type 0
 LosersStamp c =
-    (r t next verdicts : Bytes) (g : Register) (s : Sheet) → read_register r ≡ some g → read_sheet t ≡ some s
-    → (x : Row) (w : WriteSet) → WritesRow c r t next verdicts x → winner g s x.key ≡ some w → x.mark ≡ mark_in s w
+    (r t next verdicts : Bytes) (g : Register) (s : Sheet) → read_register r ≡ Some g → read_sheet t ≡ Some s
+    → (x : Row) (w : WriteSet) → WritesRow c r t next verdicts x → winner g s x.key ≡ Some w → x.mark ≡ mark_in s w
 
 -- STAMPING ONE ROW A SET: an old row that a committed set names behind its first keeps its mark
 abbrev pub FirstRowStamped : Closer → Type 0
 FirstRowStamped c =
-    (r t next verdicts : Bytes) (g : Register) (s : Sheet) → read_register r ≡ some g → read_sheet t ≡ some s
+    (r t next verdicts : Bytes) (g : Register) (s : Sheet) → read_register r ≡ Some g → read_sheet t ≡ Some s
     → (row x : Row) (w : WriteSet) (first : Record) (rest : List Record) → Memᴰ row g.rows → WritesRow c r t next verdicts x → x.key ≡ row.key
     → Memᴰ w (committed g s) → w.records ≡ first ∷ rest → any (λ r. eqb r.key x.key) rest ≡ true → x.mark ≡ row.mark
 
@@ -120,9 +118,9 @@ asked : (c : Closer) (xs : List Step) (k : Closing) → close_outcome (register_
 asked c xs k e h = h k e (zeros register_room) (zeros verdict_room) (zeros_long register_room) (zeros_long verdict_room)
 
 -- 0 for a refusal, else one more than the length of the verdicts
-abbrev answered : Closed → ℕ
-answered (Wrote i j) = j + 1
-answered (Refused x) = 0
+abbrev answered : ClosedAnswer → ℕ
+answered (Ok c) = c.verdicts + 1
+answered (Err x) = 0
 
 -- A closes with two verdicts of 5 bytes
 asked_A : (c : Closer) → AsksOn c A → answered (on c A).answer ≡ 11
@@ -166,7 +164,7 @@ doing_nothing_fails c w d = rejected c A (nothing_on_A c w) d
 
 -- what an example's closing writes, as a row of what a closing that does as asked writes into buffers of zeros
 row_written : (c : Closer) (xs : List Step) (k : Closing) (g : Register) → close_outcome (register_bytes R) (sheet_of xs) register_room verdict_room ≡ done k
-    → read_register k.register ≡ some g → AsksOn c xs → (x : Row) → Memᴰ x g.rows
+    → read_register k.register ≡ Some g → AsksOn c xs → (x : Row) → Memᴰ x g.rows
     → WritesRow c (register_bytes R) (sheet_of xs) (zeros register_room) (zeros verdict_room) x
 row_written c xs k g e q h x m =
     let l = asked c xs k e h in

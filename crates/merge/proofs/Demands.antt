@@ -1,6 +1,5 @@
 -- The values that prove the auditor's page, specs/Demands.antt: a field for each sentence.
-use Rattle.std.proofs.Common.{ap, ap₂}
-use Rattle.std.proofs.Math.Option.{Option, some}
+use Rattle.std.proofs.Common.{ap, ap₂, Option, Some}
 use Rattle.rules.specs.Numbers.{master_of}
 use Rattle.rules.specs.Register.{Register}
 use Rattle.rules.specs.Sheet.{Sheet, read_sheet}
@@ -60,7 +59,7 @@ demand_1 = record {
   first_failing = λ g mode lsn es. reading.check_tells g mode lsn 0 es;
   close_examines_register = λ r t n m e. ap (λ (g : Option Register). close_sheet g (read_sheet t) n m) e;
   check_examines_register = λ r mode lsn ks cs e. ap (λ (g : Option Register). check_reads g mode lsn (reads_of ks cs)) e;
-  reads_examines_register = λ r mode lsn es e. ap (λ (g : Option Register). check_reads g mode lsn (some es)) e;
+  reads_examines_register = λ r mode lsn es e. ap (λ (g : Option Register). check_reads g mode lsn (Some es)) e;
   close_examines_sheet = λ r t n m g e f. ap₂ (λ (a : Option Register) (b : Option Sheet). close_sheet a b n m) e f;
   put_examines_sheet = λ s e sen csn b room h. ap (λ (a : Option Sheet). offer_to a (offered_set e sen csn b) e (master_of csn) room) h;
   notice_examines_sheet = λ s e m n room h. ap (λ (a : Option Sheet). offer_to a (offered_notice e m n) e m room) h;

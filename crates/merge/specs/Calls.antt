@@ -1,12 +1,8 @@
 -- A CALLER'S CALLS of open, put, notice and join, each on bytes that an earlier call wrote or that were given, and one of close: what they
 -- answered and left in their buffers, where the operations keep their promises. The operations' contracts are these very promises.
-use Rattle.std.specs.Prelude.{ℕ, ◌≡◌, true, [], length, take}
+use Rattle.std.specs.Prelude.{ℕ, ◌≡◌, true, [], length, take, Ok, Err}
 use Rattle.words.specs.Words.{Bytes}
-use Rattle.rules.specs.declared.answer.Answer.{Answer}
-use Rattle.rules.specs.declared.answer.Answer.TheVariants.{Wrote, Refused}
-use Rattle.rules.specs.declared.answer.Closed.{Closed}
-use Rattle.rules.specs.declared.answer.Closed.TheVariants as closed
-use Rattle.rules.specs.Answers.{refusal_number}
+use Rattle.rules.specs.Answers.{Answer, ClosedAnswer, refusal_number}
 use Rattle.rules.specs.Sheet.{is_sheet}
 use Rattle.rules.specs.Refused.{Outcome, refused, done, open_outcome, put_outcome, notice_outcome, join_outcome, close_outcome}
 use Rattle.rules.specs.Promises.{Promise, ClosePromise}
@@ -17,38 +13,38 @@ use Rattle.laws.specs.SameClosing.{LongEnough}
 pub data Called : Tree → Answer → Bytes → Type 0 where
   opens : (e : Number 4) (r : Number 2) (before : Bytes) {a : Answer} {after : Bytes}
       → Promise (open_outcome e.value r.value (length before)) before a after → Called (opened e r (length before)) a after
-  puts : {t : Tree} {n : ℕ} {held : Bytes} → Called t (Wrote n) held → (e sen : ℕ) (csn : Number 8) (b before : Bytes) {a : Answer} {after : Bytes}
+  puts : {t : Tree} {n : ℕ} {held : Bytes} → Called t (Ok n) held → (e sen : ℕ) (csn : Number 8) (b before : Bytes) {a : Answer} {after : Bytes}
       → Promise (put_outcome (take n held) e sen csn.value b (length before)) before a after → Called (put t e sen csn b (length before)) a after
-  notices : {t : Tree} {n : ℕ} {held : Bytes} → Called t (Wrote n) held → (e m k : ℕ) (before : Bytes) {a : Answer} {after : Bytes}
+  notices : {t : Tree} {n : ℕ} {held : Bytes} → Called t (Ok n) held → (e m k : ℕ) (before : Bytes) {a : Answer} {after : Bytes}
       → Promise (notice_outcome (take n held) e m k (length before)) before a after → Called (notice t e m k (length before)) a after
-  joins : {t u : Tree} {n m : ℕ} {held other : Bytes} → Called t (Wrote n) held → Called u (Wrote m) other → (before : Bytes) {a : Answer} {after : Bytes}
+  joins : {t u : Tree} {n m : ℕ} {held other : Bytes} → Called t (Ok n) held → Called u (Ok m) other → (before : Bytes) {a : Answer} {after : Bytes}
       → Promise (join_outcome (take n held) (take m other) (length before)) before a after → Called (join t u (length before)) a after
   -- no call: a sheet that was given
-  begins : (b : Bytes) (p : is_sheet b ≡ true) → Called (given b p) (Wrote (length b)) b
+  begins : (b : Bytes) (p : is_sheet b ≡ true) → Called (given b p) (Ok (length b)) b
 
 -- an outcome is told by an answer and the buffer after it
 abbrev pub AnsweredBy : Outcome Bytes → Answer → Bytes → Type 0
-AnsweredBy o (Wrote n) after = o ≡ done (take n after)
-AnsweredBy o (Refused x) after = o ≡ refused (refusal_number x)
+AnsweredBy o (Ok n) after = o ≡ done (take n after)
+AnsweredBy o (Err x) after = o ≡ refused (refusal_number x)
 
 -- ---- a call of close
 
 -- a call of close on a register and a sheet: what it answered, and what it left in the buffers that it was lent
-pub record CloseCall (register sheet : Bytes) (a : Closed) (next verdicts : Bytes) : Type 0 where
+pub record CloseCall (register sheet : Bytes) (a : ClosedAnswer) (next verdicts : Bytes) : Type 0 where
   pub lent_next : Bytes
   pub lent_verdicts : Bytes
   pub kept : ClosePromise (close_outcome register sheet (length lent_next) (length lent_verdicts)) lent_next lent_verdicts a next verdicts
 
 -- its buffers were long enough
-abbrev pub Roomy : {register sheet : Bytes} {a : Closed} {next verdicts : Bytes} → CloseCall register sheet a next verdicts → Type 0
+abbrev pub Roomy : {register sheet : Bytes} {a : ClosedAnswer} {next verdicts : Bytes} → CloseCall register sheet a next verdicts → Type 0
 Roomy c = LongEnough (length c.lent_next) (length c.lent_verdicts)
 
 -- what is written of the next register
-abbrev pub written_next : Closed → Bytes → Bytes
-written_next (closed.Wrote i j) next = take i next
-written_next (closed.Refused x) next = []
+abbrev pub written_next : ClosedAnswer → Bytes → Bytes
+written_next (Ok c) next = take c.register next
+written_next (Err x) next = []
 
 -- and of the verdicts
-abbrev pub written_verdicts : Closed → Bytes → Bytes
-written_verdicts (closed.Wrote i j) verdicts = take j verdicts
-written_verdicts (closed.Refused x) verdicts = []
+abbrev pub written_verdicts : ClosedAnswer → Bytes → Bytes
+written_verdicts (Ok c) verdicts = take c.verdicts verdicts
+written_verdicts (Err x) verdicts = []

@@ -1,25 +1,16 @@
 -- THE AUDITOR'S PAGE. The three demands that every part is marked by, and the visit desk: a field for each sentence, in order; the values that prove them
--- are proofs/Demands.antt. What an operation does is its outcome (`rules` `Refused`), and what its code ensures of its answer and of every lent byte is
+-- are proofs/Demands.antt. What an operation does is its outcome (`rules` `Err`), and what its code ensures of its answer and of every lent byte is
 -- its promise of that outcome (`rules` `Promises`).
-use Rattle.std.specs.Prelude.{ℕ, suc, ◌<◌, ◌≤◌, ◌≡◌, ◌⊎◌, true, false, length, get_or, set, take, drop}
+use Rattle.std.specs.Prelude.{ℕ, suc, ◌<◌, ◌≤◌, ◌≡◌, ◌⊎◌, true, false, length, get_or, set, take, drop, None, Some, Ok, Err}
 use mathlib.Core.List.{List, [], Memᴰ, Permᴰ}
-use Rattle.std.proofs.Math.Option.{none, some}
 use Rattle.words.specs.Words.{Bytes}
 use Rattle.rules.specs.declared.row.Row.{Row}
 use Rattle.rules.specs.declared.row.Record.{Record}
 use Rattle.rules.specs.declared.row.Read.{Read}
 use Rattle.rules.specs.declared.desk.OpenSet.{OpenSet}
-use Rattle.rules.specs.declared.desk.Entered.{Entered}
-use Rattle.rules.specs.declared.desk.Entered.TheVariants as entered
 use Rattle.rules.specs.declared.answer.Refusal.{Refusal}
-use Rattle.rules.specs.declared.answer.Answer.{Answer}
-use Rattle.rules.specs.declared.answer.Answer.TheVariants.{Wrote, Refused}
-use Rattle.rules.specs.declared.answer.Closed.{Closed}
-use Rattle.rules.specs.declared.answer.Closed.TheVariants as closed
-use Rattle.rules.specs.declared.answer.Checked.{Checked}
-use Rattle.rules.specs.declared.answer.Checked.TheVariants as checked
 use Rattle.rules.specs.declared.answer.Reason.{Reason}
-use Rattle.rules.specs.Answers.{refusal_number}
+use Rattle.rules.specs.Answers.{Answer, ClosedAnswer, Checked, Entered, lengths, fails_with, refusal_number}
 use Rattle.rules.specs.Lists.{flat}
 use Rattle.rules.specs.Register.{Register, sound_register, register_bytes, register_in, read_register}
 use Rattle.rules.specs.Sheet.{WriteSet, Sheet, is_kind, sound_value, sound_sheet, sheet_bytes, sheet_in, read_sheet, records_bytes, offered_records}
@@ -80,7 +71,7 @@ pub record FirstDemand : Type 0 where
       → RefusedExactly (to_check register mode lsn (reads_of keys csns)) (check_outcome register mode lsn keys csns)
       (check_from (register_in register) mode lsn 0 (entries_of (reads_of keys csns)))
   pub checks_reads : (register : Bytes) (mode lsn : ℕ) (entries : List Read)
-      → RefusedExactly (to_check register mode lsn (some entries)) (reads_outcome register mode lsn entries) (check_from (register_in register) mode lsn 0 entries)
+      → RefusedExactly (to_check register mode lsn (Some entries)) (reads_outcome register mode lsn entries) (check_from (register_in register) mode lsn 0 entries)
   pub enters : (o : OpenSet) (kind : ℕ) (tag : Bytes) (value : ℕ)
       → RefusedExactly (to_enter o kind tag value) (enter_outcome o kind tag value) (open_set_of (put_record (record_of kind (key_in tag) value) (open_records o)))
   pub offers : (o : OpenSet) (sheet : Bytes) (epoch sen csn room : ℕ)
@@ -92,60 +83,60 @@ pub record FirstDemand : Type 0 where
   -- What the read check answers is the first failing entry, or that none fails.
   pub first_failing : (g : Register) (mode lsn : ℕ) (entries : List Read) → reading.Tells g mode lsn 0 entries (check_from g mode lsn 0 entries)
   -- It examines forms itself: what is no register is refused with 1, what is no sheet with 2, an ill-formed offer with 3, each before what has a larger number.
-  pub close_examines_register : (register sheet : Bytes) (next_room room : ℕ) → read_register register ≡ none → close_outcome register sheet next_room room ≡ refused 1
-  pub check_examines_register : (register : Bytes) (mode lsn : ℕ) (keys csns : List ℕ) → read_register register ≡ none → check_outcome register mode lsn keys csns ≡ refused 1
-  pub reads_examines_register : (register : Bytes) (mode lsn : ℕ) (entries : List Read) → read_register register ≡ none → reads_outcome register mode lsn entries ≡ refused 1
-  pub close_examines_sheet : (register sheet : Bytes) (next_room room : ℕ) (g : Register) → read_register register ≡ some g → read_sheet sheet ≡ none
+  pub close_examines_register : (register sheet : Bytes) (next_room room : ℕ) → read_register register ≡ None → close_outcome register sheet next_room room ≡ refused 1
+  pub check_examines_register : (register : Bytes) (mode lsn : ℕ) (keys csns : List ℕ) → read_register register ≡ None → check_outcome register mode lsn keys csns ≡ refused 1
+  pub reads_examines_register : (register : Bytes) (mode lsn : ℕ) (entries : List Read) → read_register register ≡ None → reads_outcome register mode lsn entries ≡ refused 1
+  pub close_examines_sheet : (register sheet : Bytes) (next_room room : ℕ) (g : Register) → read_register register ≡ Some g → read_sheet sheet ≡ None
       → close_outcome register sheet next_room room ≡ refused 2
-  pub put_examines_sheet : (sheet : Bytes) (epoch sen csn : ℕ) (records : Bytes) (room : ℕ) → read_sheet sheet ≡ none → put_outcome sheet epoch sen csn records room ≡ refused 2
-  pub notice_examines_sheet : (sheet : Bytes) (epoch master number room : ℕ) → read_sheet sheet ≡ none → notice_outcome sheet epoch master number room ≡ refused 2
-  pub join_examines_first : (a b : Bytes) (room : ℕ) → read_sheet a ≡ none → join_outcome a b room ≡ refused 2
-  pub join_examines_second : (a b : Bytes) (room : ℕ) (s : Sheet) → read_sheet a ≡ some s → read_sheet b ≡ none → join_outcome a b room ≡ refused 2
-  pub put_examines_set : (sheet : Bytes) (epoch sen csn : ℕ) (records : Bytes) (room : ℕ) (s : Sheet) → read_sheet sheet ≡ some s → offered_set epoch sen csn records ≡ none
+  pub put_examines_sheet : (sheet : Bytes) (epoch sen csn : ℕ) (records : Bytes) (room : ℕ) → read_sheet sheet ≡ None → put_outcome sheet epoch sen csn records room ≡ refused 2
+  pub notice_examines_sheet : (sheet : Bytes) (epoch master number room : ℕ) → read_sheet sheet ≡ None → notice_outcome sheet epoch master number room ≡ refused 2
+  pub join_examines_first : (a b : Bytes) (room : ℕ) → read_sheet a ≡ None → join_outcome a b room ≡ refused 2
+  pub join_examines_second : (a b : Bytes) (room : ℕ) (s : Sheet) → read_sheet a ≡ Some s → read_sheet b ≡ None → join_outcome a b room ≡ refused 2
+  pub put_examines_set : (sheet : Bytes) (epoch sen csn : ℕ) (records : Bytes) (room : ℕ) (s : Sheet) → read_sheet sheet ≡ Some s → offered_set epoch sen csn records ≡ None
       → put_outcome sheet epoch sen csn records room ≡ refused 3
-  pub notice_examines_notice : (sheet : Bytes) (epoch master number room : ℕ) (s : Sheet) → read_sheet sheet ≡ some s → offered_notice epoch master number ≡ none
+  pub notice_examines_notice : (sheet : Bytes) (epoch master number room : ℕ) (s : Sheet) → read_sheet sheet ≡ Some s → offered_notice epoch master number ≡ None
       → notice_outcome sheet epoch master number room ≡ refused 3
   pub enter_examines_set : (o : OpenSet) (kind : ℕ) (tag : Bytes) (value : ℕ) → is_open_set o ≡ false → enter_outcome o kind tag value ≡ refused 3
-  pub offer_examines_sheet : (o : OpenSet) (sheet : Bytes) (epoch sen csn room : ℕ) → read_sheet sheet ≡ none → offer_outcome o sheet epoch sen csn room ≡ refused 2
-  pub offer_examines_set : (o : OpenSet) (sheet : Bytes) (epoch sen csn room : ℕ) (s : Sheet) → read_sheet sheet ≡ some s → is_open_set o ≡ false
+  pub offer_examines_sheet : (o : OpenSet) (sheet : Bytes) (epoch sen csn room : ℕ) → read_sheet sheet ≡ None → offer_outcome o sheet epoch sen csn room ≡ refused 2
+  pub offer_examines_set : (o : OpenSet) (sheet : Bytes) (epoch sen csn room : ℕ) (s : Sheet) → read_sheet sheet ≡ Some s → is_open_set o ≡ false
       → offer_outcome o sheet epoch sen csn room ≡ refused 3
   -- It refuses by a fixed number: a promise kept tells the outcome. Success means that the named length was written, and the bytes after it stayed;
-  pub success_tells : (q : Asked) (o : Outcome Bytes) (result before after : Bytes) (n : ℕ) → RefusedExactly q o result → Promise o before (Wrote n) after
+  pub success_tells : (q : Asked) (o : Outcome Bytes) (result before after : Bytes) (n : ℕ) → RefusedExactly q o result → Promise o before (Ok n) after
       → (o ≡ done (take n after)) × (n ≡ length (take n after)) × (drop n after ≡ drop n before)
   pub closing_success_tells : (q : Asked) (o : Outcome Closing) (result : Closing) (next verdicts next' verdicts' : Bytes) (i j : ℕ) → RefusedExactly q o result
-      → ClosePromise o next verdicts (closed.Wrote i j) next' verdicts'
+      → ClosePromise o next verdicts (lengths i j) next' verdicts'
       → (o ≡ done (record { register = take i next'; verdicts = take j verdicts' }))
       × (i ≡ length (take i next')) × (drop i next' ≡ drop i next) × (j ≡ length (take j verdicts')) × (drop j verdicts' ≡ drop j verdicts)
-  pub pass_tells : (q : Asked) (o : Outcome Finding) (result : Finding) → RefusedExactly q o result → CheckPromise o checked.Pass → o ≡ done passes
-  pub failure_tells : (o : Outcome Finding) (i k : ℕ) (reason : Reason) → CheckPromise o (checked.Fails i k reason) → o ≡ done (fails i k reason)
-  pub added_tells : (q : Asked) (o : Outcome OpenSet) (result before after : OpenSet) → RefusedExactly q o result → EnterPromise o before entered.Added after → o ≡ done after
+  pub pass_tells : (q : Asked) (o : Outcome Finding) (result : Finding) → RefusedExactly q o result → CheckPromise o (Ok None) → o ≡ done passes
+  pub failure_tells : (o : Outcome Finding) (i k : ℕ) (reason : Reason) → CheckPromise o (fails_with i k reason) → o ≡ done (fails i k reason)
+  pub added_tells : (q : Asked) (o : Outcome OpenSet) (result before after : OpenSet) → RefusedExactly q o result → EnterPromise o before (Ok tt) after → o ≡ done after
   pub offered_tells : (q : Asked) (o : Outcome Bytes) (result : Bytes) (before after : OpenSet) (out out' : Bytes) (n : ℕ) → RefusedExactly q o result
-      → OfferPromise o before out (Wrote n) after out' → (o ≡ done (take n out')) × (n ≡ length (take n out')) × (drop n out' ≡ drop n out) × (after ≡ empty_set)
+      → OfferPromise o before out (Ok n) after out' → (o ≡ done (take n out')) × (n ≡ length (take n out')) × (drop n out' ≡ drop n out) × (after ≡ empty_set)
   -- a refusal, that it is the foremost that applies.
-  pub refusal_tells : (q : Asked) (o : Outcome Bytes) (result before after : Bytes) (x : Refusal) → RefusedExactly q o result → Promise o before (Refused x) after
+  pub refusal_tells : (q : Asked) (o : Outcome Bytes) (result before after : Bytes) (x : Refusal) → RefusedExactly q o result → Promise o before (Err x) after
       → (o ≡ refused (refusal_number x)) × Foremost q x
   pub closing_refusal_tells : (q : Asked) (o : Outcome Closing) (result : Closing) (next verdicts next' verdicts' : Bytes) (x : Refusal) → RefusedExactly q o result
-      → ClosePromise o next verdicts (closed.Refused x) next' verdicts' → (o ≡ refused (refusal_number x)) × Foremost q x
-  pub check_refusal_tells : (q : Asked) (o : Outcome Finding) (result : Finding) (x : Refusal) → RefusedExactly q o result → CheckPromise o (checked.Refused x)
+      → ClosePromise o next verdicts (Err x) next' verdicts' → (o ≡ refused (refusal_number x)) × Foremost q x
+  pub check_refusal_tells : (q : Asked) (o : Outcome Finding) (result : Finding) (x : Refusal) → RefusedExactly q o result → CheckPromise o (Err x)
       → (o ≡ refused (refusal_number x)) × Foremost q x
   pub entering_refusal_tells : (q : Asked) (o : Outcome OpenSet) (result before after : OpenSet) (x : Refusal) → RefusedExactly q o result
-      → EnterPromise o before (entered.Refused x) after → (o ≡ refused (refusal_number x)) × Foremost q x
+      → EnterPromise o before (Err x) after → (o ≡ refused (refusal_number x)) × Foremost q x
   pub offering_refusal_tells : (q : Asked) (o : Outcome Bytes) (result : Bytes) (before after : OpenSet) (out out' : Bytes) (x : Refusal) → RefusedExactly q o result
-      → OfferPromise o before out (Refused x) after out' → (o ≡ refused (refusal_number x)) × Foremost q x
+      → OfferPromise o before out (Err x) after out' → (o ≡ refused (refusal_number x)) × Foremost q x
   -- And it settles the answer and every lent byte.
   pub settled : (o : Outcome Bytes) (before after after' : Bytes) (a b : Answer) → Promise o before a after → Promise o before b after' → (a ≡ b) × (after ≡ after')
-  pub settled_closing : (o : Outcome Closing) (next verdicts n n' v v' : Bytes) (a b : Closed)
+  pub settled_closing : (o : Outcome Closing) (next verdicts n n' v v' : Bytes) (a b : ClosedAnswer)
       → ClosePromise o next verdicts a n v → ClosePromise o next verdicts b n' v' → (a ≡ b) × (n ≡ n') × (v ≡ v')
   pub settled_check : (o : Outcome Finding) (a b : Checked) → CheckPromise o a → CheckPromise o b → a ≡ b
   pub settled_entering : (o : Outcome OpenSet) (before after after' : OpenSet) (a b : Entered) → EnterPromise o before a after → EnterPromise o before b after' → (a ≡ b) × (after ≡ after')
   pub settled_offering : (o : Outcome Bytes) (before after after' : OpenSet) (out out₁ out₂ : Bytes) (a b : Answer)
       → OfferPromise o before out a after out₁ → OfferPromise o before out b after' out₂ → (a ≡ b) × (after ≡ after') × (out₁ ≡ out₂)
   -- A refusal writes nothing.
-  pub refusal_writes_nothing : (o : Outcome Bytes) (before after : Bytes) (x : Refusal) → Promise o before (Refused x) after → after ≡ before
+  pub refusal_writes_nothing : (o : Outcome Bytes) (before after : Bytes) (x : Refusal) → Promise o before (Err x) after → after ≡ before
   pub refused_closing_writes_nothing : (o : Outcome Closing) (next verdicts next' verdicts' : Bytes) (x : Refusal)
-      → ClosePromise o next verdicts (closed.Refused x) next' verdicts' → (next' ≡ next) × (verdicts' ≡ verdicts)
-  pub refused_entering_leaves : (o : Outcome OpenSet) (before after : OpenSet) (x : Refusal) → EnterPromise o before (entered.Refused x) after → after ≡ before
-  pub refused_offering_leaves : (o : Outcome Bytes) (before after : OpenSet) (out out' : Bytes) (x : Refusal) → OfferPromise o before out (Refused x) after out'
+      → ClosePromise o next verdicts (Err x) next' verdicts' → (next' ≡ next) × (verdicts' ≡ verdicts)
+  pub refused_entering_leaves : (o : Outcome OpenSet) (before after : OpenSet) (x : Refusal) → EnterPromise o before (Err x) after → after ≡ before
+  pub refused_offering_leaves : (o : Outcome Bytes) (before after : OpenSet) (out out' : Bytes) (x : Refusal) → OfferPromise o before out (Err x) after out'
       → (after ≡ before) × (out' ≡ out)
 
 -- DEMAND 2: closing gives exactly the verdicts and next register of document 01's rule, in which a row's mark changes only when its
@@ -153,17 +144,17 @@ pub record FirstDemand : Type 0 where
 pub record SecondDemand : Type 0 where
   -- Closing that is done gives all that the fields after this one say, of the register and the sheet that its bytes read as.
   pub closing_gives : (r t : Bytes) (n m : ℕ) (c : Closing) → close_outcome r t n m ≡ done c
-      → (g : Register) × (s : Sheet) × (read_register r ≡ some g) × (read_sheet t ≡ some s) × Writes g s c
+      → (g : Register) × (s : Sheet) × (read_register r ≡ Some g) × (read_sheet t ≡ Some s) × Writes g s c
   -- The verdicts: one a set, in csn order; commit, or the smallest key lost or found wrong.
   pub verdicts_written : (r t : Bytes) (g : Register) (s : Sheet) (c : Closing) → Gives r t g s c → c.verdicts ≡ flat verdict_bytes (verdicts g s)
   pub verdict_says : (r t : Bytes) (g : Register) (s : Sheet) (c : Closing) → Gives r t g s c → (w : WriteSet) → Memᴰ w s.sets → VerdictSays g s w (verdict g s w)
   -- The next register: its bytes read back as such, with one row a key.
-  pub next_register : (r t : Bytes) (g : Register) (s : Sheet) (c : Closing) → Gives r t g s c → read_register c.register ≡ some (next g s)
+  pub next_register : (r t : Bytes) (g : Register) (s : Sheet) (c : Closing) → Gives r t g s c → read_register c.register ≡ Some (next g s)
   pub one_row_a_key : (r t : Bytes) (g : Register) (s : Sheet) (c : Closing) → Gives r t g s c
       → (x y : Row) → Memᴰ x (next_rows g s) → Memᴰ y (next_rows g s) → x.key ≡ y.key → x ≡ y
   -- By document 01's rule: each claimed key has exactly one winner, a claimant that precedes all others;
   pub one_winner : (r t : Bytes) (g : Register) (s : Sheet) (c : Closing) → Gives r t g s c → (k : ℕ) (w : WriteSet) → Claims g s k w
-      → (v : WriteSet) × (winner g s k ≡ some v) × Wins g s k v × ((u : WriteSet) → Wins g s k u → u ≡ v)
+      → (v : WriteSet) × (winner g s k ≡ Some v) × Wins g s k v × ((u : WriteSet) → Wins g s k u → u ≡ v)
   -- a set commits just when it is fit and precedes every other fit set on each of its keys;
   pub commits_just_when : (g : Register) (s : Sheet) (w : WriteSet) → sound_sheet s ≡ true → Memᴰ w s.sets → Says (commits g s w) (Committed g s w)
   -- each set committed, and every record of it stands, or it did not, and what stands at each of its keys is there by another set that
@@ -186,35 +177,35 @@ pub record SecondDemand : Type 0 where
   pub absent_stay : (r t : Bytes) (g : Register) (s : Sheet) (c : Closing) → Gives r t g s c
       → (k : ℕ) → present g k ≡ false → Unnamed (committed g s) k → Absent (next_rows g s) k
   -- So a call of close that answers success left what closing gives, in the lengths that it answers,
-  pub closing_writes : (r t next verdicts : Bytes) (i j : ℕ) → CloseCall r t (closed.Wrote i j) next verdicts
+  pub closing_writes : (r t next verdicts : Bytes) (i j : ℕ) → CloseCall r t (lengths i j) next verdicts
       → (i ≡ length (take i next)) × (j ≡ length (take j verdicts))
       × ((g : Register) × (s : Sheet) × Gives r t g s (record { register = take i next; verdicts = take j verdicts }))
   -- and one that answers a refusal answers the foremost that applies, and left both buffers as they were.
-  pub closing_refuses : (r t next verdicts : Bytes) (x : Refusal) (c : CloseCall r t (closed.Refused x) next verdicts)
+  pub closing_refuses : (r t next verdicts : Bytes) (x : Refusal) (c : CloseCall r t (Err x) next verdicts)
       → Foremost (to_close r t (length c.lent_next) (length c.lent_verdicts)) x × (next ≡ c.lent_next) × (verdicts ≡ c.lent_verdicts)
   -- Asked of any closing: who keeps the promise of close meets the demand, and who meets it keeps the promise.
   pub keeps_meets : (c : Closer) → Keeps c → Demand2 c
   pub meets_keeps : (c : Closer) → Demand2 c → Keeps c
   -- The same sheet closed again on its result is refused with 4, and so is every sheet on snapshot 4,294,967,295.
   pub closed_again : (r t : Bytes) (n m : ℕ) (c : Closing) → close_outcome r t n m ≡ done c → (n' m' : ℕ) → close_outcome c.register t n' m' ≡ refused 4
-  pub none_follows : (r t : Bytes) (n m : ℕ) (g : Register) (s : Sheet) → read_register r ≡ some g → read_sheet t ≡ some s → g.snapshot ≡ 4294967295
+  pub none_follows : (r t : Bytes) (n m : ℕ) (g : Register) (s : Sheet) → read_register r ≡ Some g → read_sheet t ≡ Some s → g.snapshot ≡ 4294967295
       → close_outcome r t n m ≡ refused 4
   -- Registers read back as written, and have one encoding.
-  pub register_reads_back : (g : Register) → sound_register g ≡ true → read_register (register_bytes g) ≡ some g
-  pub register_one_encoding : (a b : Bytes) (g : Register) → read_register a ≡ some g → read_register b ≡ some g → a ≡ b
+  pub register_reads_back : (g : Register) → sound_register g ≡ true → read_register (register_bytes g) ≡ Some g
+  pub register_one_encoding : (a b : Bytes) (g : Register) → read_register a ≡ Some g → read_register b ≡ Some g → a ≡ b
   -- So do sheets.
-  pub sheet_reads_back : (s : Sheet) → sound_sheet s ≡ true → read_sheet (sheet_bytes s) ≡ some s
-  pub sheet_one_encoding : (a b : Bytes) (s : Sheet) → read_sheet a ≡ some s → read_sheet b ≡ some s → a ≡ b
+  pub sheet_reads_back : (s : Sheet) → sound_sheet s ≡ true → read_sheet (sheet_bytes s) ≡ Some s
+  pub sheet_one_encoding : (a b : Bytes) (s : Sheet) → read_sheet a ≡ Some s → read_sheet b ≡ Some s → a ≡ b
 
 -- DEMAND 3: however the offers of one epoch are dealt over sheets, repeated, ordered and joined, the final sheet is byte for byte the one
 -- that Gathering defines from the distinct offers; so all depots reach the same verdicts and register, or the same refusal.
 pub record ThirdDemand : Type 0 where
   -- However they are dealt: a tree of calls of open, put, notice and join, of any shape, on sheets opened or given. Where the last call
   -- answers success, it left the bytes of the sheet that Gathering defines from the offers, and answered their length.
-  pub final_sheet : (t : Tree) (n : ℕ) (after : Bytes) → Called t (Wrote n) after → (n ≡ length (sheet_bytes (gathered_in t))) × (take n after ≡ sheet_bytes (gathered_in t))
+  pub final_sheet : (t : Tree) (n : ℕ) (after : Bytes) → Called t (Ok n) after → (n ≡ length (sheet_bytes (gathered_in t))) × (take n after ≡ sheet_bytes (gathered_in t))
   -- It does, if epoch and roster are one throughout and such that a sheet can have them, the offers are well-formed and of masters in the
   -- roster, and each buffer is at least 9,240 long: gathering never gets stuck.
-  pub never_refused : (e r : ℕ) → Head e r → (t : Tree) (a : Answer) (after : Bytes) → FairTree e r t → Called t a after → a ≡ Wrote (length (sheet_bytes (gathered_in t)))
+  pub never_refused : (e r : ℕ) → Head e r → (t : Tree) (a : Answer) (after : Bytes) → FairTree e r t → Called t a after → a ≡ Ok (length (sheet_bytes (gathered_in t)))
   pub never_stuck : (e r : ℕ) → Head e r → (t : Tree) → FairTree e r t → ends paper t ≡ done (sheet_bytes (gathered_in t))
   -- And only then.
   pub only_fair : (t : Tree) (b : Bytes) → ends paper t ≡ done b → Head (epoch_of t) (roster_of t) × FairTree (epoch_of t) (roster_of t) t
@@ -236,33 +227,33 @@ pub record ThirdDemand : Type 0 where
       → b ≡ sheet_bytes (spoiled_sheet (epoch_of u) (roster_of u))
   -- So all depots end in the same bytes,
   pub same_bytes : (e r : ℕ) → Head e r → (t u : Tree) → FairTree e r t → FairTree e r u → SameOffers t u → (b : Bytes) × (ends paper t ≡ done b) × (ends paper u ≡ done b)
-  pub same_left : (t u : Tree) (n m : ℕ) (held other : Bytes) → Called t (Wrote n) held → Called u (Wrote m) other
+  pub same_left : (t u : Tree) (n m : ℕ) (held other : Bytes) → Called t (Ok n) held → Called u (Ok m) other
       → epoch_of t ≡ epoch_of u → roster_of t ≡ roster_of u → SameOffers t u → (n ≡ m) × (take n held ≡ take m other)
   -- and reach the same verdicts and register, or the same refusal, each with buffers of its own that are long enough.
   pub same_closing : (e r : ℕ) → Head e r → (t u : Tree) → FairTree e r t → FairTree e r u → SameOffers t u
       → (g : Bytes) (n m n' m' : ℕ) → LongEnough n m → LongEnough n' m'
       → (a : Bytes) × (b : Bytes) × (ends paper t ≡ done a) × (ends paper u ≡ done b) × (close_outcome g a n m ≡ close_outcome g b n' m')
-  pub same_closed : (t u : Tree) (n m : ℕ) (held other : Bytes) → Called t (Wrote n) held → Called u (Wrote m) other
+  pub same_closed : (t u : Tree) (n m : ℕ) (held other : Bytes) → Called t (Ok n) held → Called u (Ok m) other
       → epoch_of t ≡ epoch_of u → roster_of t ≡ roster_of u → SameOffers t u
-      → (r next verdicts next' verdicts' : Bytes) (a b : Closed) (c : CloseCall r (take n held) a next verdicts) (d : CloseCall r (take m other) b next' verdicts')
+      → (r next verdicts next' verdicts' : Bytes) (a b : ClosedAnswer) (c : CloseCall r (take n held) a next verdicts) (d : CloseCall r (take m other) b next' verdicts')
       → Roomy c → Roomy d → (a ≡ b) × (written_next a next ≡ written_next b next') × (written_verdicts a verdicts ≡ written_verdicts b verdicts')
 
 -- THE VISIT DESK (document 02, L2): clerks type kind, tag and value; the open set is filled where it stands, kept in key order, then offered to
 -- the depot's sheet, which empties it unless refused.
 pub record TheDesk : Type 0 where
   -- The open set reads back as written, has one encoding, and the empty one is all zero.
-  pub open_reads_back : (rs : List Record) → sound_open rs ≡ true → read_open (open_set_of rs) ≡ some rs
-  pub open_one_encoding : (o : OpenSet) (rs : List Record) → read_open o ≡ some rs → (o ≡ open_set_of rs) × (sound_open rs ≡ true)
+  pub open_reads_back : (rs : List Record) → sound_open rs ≡ true → read_open (open_set_of rs) ≡ Some rs
+  pub open_one_encoding : (o : OpenSet) (rs : List Record) → read_open o ≡ Some rs → (o ≡ open_set_of rs) × (sound_open rs ≡ true)
   pub open_empty : open_set_of [] ≡ empty_set
   -- Entering that is not refused adds exactly that record, in key order; and the records of a set, typed one by one in any order, are none of
   -- them refused and end in the same open set.
   pub adds_one : (o : OpenSet) (kind : ℕ) (tag : Bytes) (value : ℕ) (after : OpenSet) → enter_outcome o kind tag value ≡ done after → Enters o kind tag value after
   pub any_order : (rs ts : List Record) → sound_open rs ≡ true → Permᴰ rs ts → typed.enter_all ts empty_set ≡ done (open_set_of rs)
   -- Offering is put of its records, so demand 3's trees may hold a set that came through the desk; not refused, it leaves the open set empty.
-  pub offer_is_put : (t : Tree) (n : ℕ) (held : Bytes) → Called t (Wrote n) held → (o : OpenSet) (e sen : ℕ) (csn : Number 8) (before : Bytes) (a : Answer) (o' : OpenSet) (after : Bytes)
+  pub offer_is_put : (t : Tree) (n : ℕ) (held : Bytes) → Called t (Ok n) held → (o : OpenSet) (e sen : ℕ) (csn : Number 8) (before : Bytes) (a : Answer) (o' : OpenSet) (after : Bytes)
       → OfferPromise (offer_outcome o (take n held) e sen csn.value (length before)) o before a o' after → Called (put t e sen csn (offered_bytes o) (length before)) a after
-  pub offer_gathers : (t : Tree) (n m : ℕ) (held : Bytes) → Called t (Wrote n) held → (o : OpenSet) (rs : List Record) → read_open o ≡ some rs → (e sen : ℕ) (csn : Number 8) (before : Bytes)
-      (o' : OpenSet) (after : Bytes) → OfferPromise (offer_outcome o (take n held) e sen csn.value (length before)) o before (Wrote m) o' after
+  pub offer_gathers : (t : Tree) (n m : ℕ) (held : Bytes) → Called t (Ok n) held → (o : OpenSet) (rs : List Record) → read_open o ≡ Some rs → (e sen : ℕ) (csn : Number 8) (before : Bytes)
+      (o' : OpenSet) (after : Bytes) → OfferPromise (offer_outcome o (take n held) e sen csn.value (length before)) o before (Ok m) o' after
       → (take m after ≡ sheet_bytes (gathered_in (put t e sen csn (records_bytes rs) (length before)))) × (o' ≡ empty_set)
   -- A right tag with one digit altered, or two unequal neighbouring digits exchanged, is no right tag, at any of the eleven places;
   pub one_altered : (t : Bytes) (p v : ℕ) → right_tag t ≡ true → p < 11 → (v ≡ get_or t p 0 → ⊥) → right_tag (set t p v) ≡ false
@@ -272,11 +263,11 @@ pub record TheDesk : Type 0 where
       → enter_outcome o kind tag value ≡ refused 11
   -- the tag of a station's key has that key, two stations have two tags, and no station has two;
   pub tag_right : (k : ℕ) → right_tag (tag_of k) ≡ true
-  pub key_of_tag_lem : (k : ℕ) → is_key k ≡ true → key_of_tag (tag_of k) ≡ some k
+  pub key_of_tag_lem : (k : ℕ) → is_key k ≡ true → key_of_tag (tag_of k) ≡ Some k
   pub two_tags : (k j : ℕ) → is_key k ≡ true → is_key j ≡ true → tag_of k ≡ tag_of j → k ≡ j
-  pub one_tag : (t : Bytes) (k : ℕ) → key_of_tag t ≡ some k → t ≡ tag_of k
+  pub one_tag : (t : Bytes) (k : ℕ) → key_of_tag t ≡ Some k → t ≡ tag_of k
   -- and station 572 is tagged 00000005724.
-  pub station_572 : (tag_of 572 ≡ tags.tag572) × (key_of_tag tags.tag572 ≡ some 572)
+  pub station_572 : (tag_of 572 ≡ tags.tag572) × (key_of_tag tags.tag572 ≡ Some 572)
 
 -- THE WRONG VERSIONS that document 01 names, and two that L1 rules out: each demand, asked of any candidate, rejects them on an example.
 pub record WrongVersions : Type 0 where

@@ -1,12 +1,12 @@
 -- The next rows written in the order of their keys: `At` says where a walk over old rows and inserts stands, and what one step writes.
-use Rattle.std.specs.Prelude.{if◌then◌else◌}
+use Rattle.std.specs.Prelude.{if◌then◌else◌, Option, None, Some}
 use Prim.Native.Nat.{ℕ, suc, ◌+◌, ◌≤◌, ◌<◌}
 use mathlib.Core.Path.{◌≡◌, refl, sym, ◌∙◌, ap}
 use mathlib.Core.Logic.{⊎_elim}
-use mathlib.Core.Bool.{Bool, true, false, true≢false}
+use mathlib.Core.Bool.{Bool, true, false}
 use mathlib.Core.List.Memᴰ
 use mathlib.Core.List.{List, [], ◌∷◌, ◌++◌, Memᴰ}
-use mathlib.Core.Option.{some, some-injective}
+use Rattle.std.proofs.lemmas.Option.{same_Some, none-some}
 use native.Mathlib.Omega.{arith}
 use borrow.Author.Count.{below_more}
 use borrow.Author.Tests.{leb-true, leb-false, le-leb}
@@ -28,8 +28,6 @@ use Rattle.laws.specs.NextRows.{gone, remains, key_stays, next→, →next_old, 
 use Rattle.registers.specs.RegisterReadings.{row_at, no_row}
 use Rattle.registers.specs.RowsRise.{larger}
 use Rattle.sheets.specs.SheetReadings.{set_at, record_at}
-use Rattle.judging.specs.declared.key.FirstKey.{FirstKey}
-use Rattle.judging.specs.declared.key.FirstKey.TheVariants.{Key, None}
 use Rattle.judging.specs.Tables.{committed_in}
 use Rattle.judging.specs.Judged.{Inserts, InsertsIn, LeastAbove}
 use Rattle.next_rows.specs.NextRow.{Later}
@@ -108,27 +106,27 @@ up_to_length a xs = keep_length _ xs
 -- ---- where the walk stands
 
 -- the keys that committed sets insert
-abbrev pub New : Sheet → List ℕ → ℕ → Type 0
+abbrev pub New : Sheet → List (Option ℕ) → ℕ → Type 0
 New s lost = InsertsIn s lost (length s.sets)
 
 -- the rows before row i have keys up to `after`, the others above it; `next` is the first insert above it
-pub record At (g : Register) (s : Sheet) (lost : List ℕ) (i after : ℕ) (next : FirstKey) : Type 0 where
+pub record At (g : Register) (s : Sheet) (lost : List (Option ℕ)) (i after : ℕ) (next : Option ℕ) : Type 0 where
   pub passed : (u : ℕ) → u < i → (row_at g u).key ≤ after
   pub to_come : (u : ℕ) → i ≤ u → u < length g.rows → after < (row_at g u).key
   pub coming : LeastAbove (New s lost) after next
 
 -- no insert before the first one
-at_most : (P : ℕ → Type 0) (after : ℕ) (next : FirstKey) → LeastAbove P after next → (j : ℕ) → after < j → P j → (k : ℕ) × (next ≡ Key k) × (k ≤ j)
+at_most : (P : ℕ → Type 0) (after : ℕ) (next : Option ℕ) → LeastAbove P after next → (j : ℕ) → after < j → P j → (k : ℕ) × (next ≡ Some k) × (k ≤ j)
 at_most P after None c j a p = absurd (c j a p)
-at_most P after (Key k) c j a p = (k, refl, c.least j a p)
+at_most P after (Some k) c j a p = (k, refl, c.least j a p)
 
 -- what is the first above one number is the first above a later one that it is above
-still_coming : (P : ℕ → Type 0) (after key : ℕ) (next : FirstKey) → after ≤ key → Later key next → LeastAbove P after next → LeastAbove P key next
+still_coming : (P : ℕ → Type 0) (after key : ℕ) (next : Option ℕ) → after ≤ key → Later key next → LeastAbove P after next → LeastAbove P key next
 still_coming P after key None h l c = λ j a p. c j (omega arith) p
-still_coming P after key (Key k) h l c = record { above = l; holds = c.holds; least = λ j a p. c.least j (omega arith) p }
+still_coming P after key (Some k) h l c = record { above = l; holds = c.holds; least = λ j a p. c.least j (omega arith) p }
 
 -- the sets that commit by the table, rightly chosen
-module _ (g : Register) (s : Sheet) (lost : List ℕ) (sound_g : sound_register g ≡ true) (sound_s : sound_sheet s ≡ true) (chosen : Choice g s (committed_in s lost)) where
+module _ (g : Register) (s : Sheet) (lost : List (Option ℕ)) (sound_g : sound_register g ≡ true) (sound_s : sound_sheet s ≡ true) (chosen : Choice g s (committed_in s lost)) where
   -- them, and the next rows by them
   abbrev C : List WriteSet
   C = committed_in s lost
@@ -169,10 +167,10 @@ module _ (g : Register) (s : Sheet) (lost : List ℕ) (sound_g : sound_register 
       go false e = rw (remains s C row e) (cons (λ y m. absurd (Memᴰ.not-nil m)) nil)
 
   -- where a row of the next register that is above `after` comes from: an old row to come, or an insert to come
-  module _ (i after : ℕ) (next : FirstKey) (at : At g s lost i after next) (x : Row) (m : Memᴰ x (rows)) (above : after < x.key) where
+  module _ (i after : ℕ) (next : Option ℕ) (at : At g s lost i after next) (x : Row) (m : Memᴰ x (rows)) (above : after < x.key) where
     pub data From : Type 0 where
       a_row : (u : ℕ) → i ≤ u → u < length g.rows → x.key ≡ (row_at g u).key → Memᴰ x (row_after s C (row_at g u)) → From
-      an_insert : (r : Record) → Memᴰ r (applied C) → r.kind ≡ insert → x ≡ inserted_row s C r → x.key ≡ r.key → (k : ℕ) → next ≡ Key k → k ≤ r.key → From
+      an_insert : (r : Record) → Memᴰ r (applied C) → r.kind ≡ insert → x ≡ inserted_row s C r → x.key ≡ r.key → (k : ℕ) → next ≡ Some k → k ≤ r.key → From
 
     from : From
     unfolding inserted_row
@@ -195,7 +193,7 @@ module _ (g : Register) (s : Sheet) (lost : List ℕ) (sound_g : sound_register 
         insert_from r k e p c = let l = at_most (New s lost) after next at.coming r.key (omega arith) (new_key r k e) in an_insert r k e p c l.0 l.1 l.2
 
   -- a row comes next
-  module _ (i after : ℕ) (next : FirstKey) (at : At g s lost i after next) (h : i < length g.rows) (before : Later (row_at g i).key next) where
+  module _ (i after : ℕ) (next : Option ℕ) (at : At g s lost i after next) (h : i < length g.rows) (before : Later (row_at g i).key next) where
     above_after : after < (row_at g i).key
     above_after = at.to_come i (omega arith) h
 
@@ -228,7 +226,7 @@ module _ (g : Register) (s : Sheet) (lost : List ℕ) (sound_g : sound_register 
         (λ x p. old_from x p.in_list p.above p.within (from i after next at x p.in_list p.above))
 
   -- an insert comes next
-  module _ (i after key : ℕ) (at : At g s lost i after (Key key)) (before : i < length g.rows → key ≤ (row_at g i).key) where
+  module _ (i after key : ℕ) (at : At g s lost i after (Some key)) (before : i < length g.rows → key ≤ (row_at g i).key) where
     -- no old row has the key
     no_row_lem : (u : ℕ) → u < length g.rows → (row_at g u).key ≡ key → ⊥
     no_row_lem u h e =
@@ -245,19 +243,19 @@ module _ (g : Register) (s : Sheet) (lost : List ℕ) (sound_g : sound_register 
           | more j ↦ absurd (omega arith)
         ]
 
-    pub insert_next : (next : FirstKey) → LeastAbove (New s lost) key next → At g s lost i key next
+    pub insert_next : (next : Option ℕ) → LeastAbove (New s lost) key next → At g s lost i key next
     insert_next next c =
         let a = at.coming.above in
         record { passed = λ u l. let b = at.passed u l in omega arith; to_come = above_key; coming = c }
 
-    pub insert_record : (r : Record) × (applied_to (applied C) key ≡ some r)
+    pub insert_record : (r : Record) × (applied_to (applied C) key ≡ Some r)
         × (up_to key (rows) ≡ up_to after (rows) ++ inserted_row s C r ∷ [])
     unfolding inserted_row
     insert_record =
         let r = new_record key at.coming.holds in
         let a = at.coming.above in
         let c = r.3 in
-        let is : applied_to (applied C) key ≡ some r.0 = ap (applied_to (applied C)) (sym c) ∙ applied_to_is (applied C) r.0 (applied_each g s C chosen sound_s) r.1 in (
+        let is : applied_to (applied C) key ≡ Some r.0 = ap (applied_to (applied C)) (sym c) ∙ applied_to_is (applied C) r.0 (applied_each g s C chosen sound_s) r.1 in (
           r.0,
           is,
           up_to_more after key (inserted_row s C r.0 ∷ []) (next_rising g s C chosen sound_g sound_s) (omega arith) (cons (λ y m. absurd (Memᴰ.not-nil m)) nil)
@@ -265,23 +263,19 @@ module _ (g : Register) (s : Sheet) (lost : List ℕ) (sound_g : sound_register 
               let e = Memᴰ.eq_of_singleton m in
               let k = ap key_of e in
               record { in_list = Memᴰ.cast e (→next_insert g s C r.0 r.1 r.2); above = omega arith; within = omega arith })
-              (λ x p. Memᴰ.head (insert_from r.0 is x p.in_list p.above p.within (from i after (Key key) at x p.in_list p.above))),
+              (λ x p. Memᴰ.head (insert_from r.0 is x p.in_list p.above p.within (from i after (Some key) at x p.in_list p.above))),
         )
       where
-        key_or0 : FirstKey → ℕ
-        key_or0 (Key k) = k
-        key_or0 None = 0
-
-        insert_from : (r : Record) → applied_to (applied C) key ≡ some r → (x : Row) (m : Memᴰ x (rows)) (a : after < x.key) → x.key ≤ key → From i after (Key key) at x m a
+        insert_from : (r : Record) → applied_to (applied C) key ≡ Some r → (x : Row) (m : Memᴰ x (rows)) (a : after < x.key) → x.key ≤ key → From i after (Some key) at x m a
             → x ≡ inserted_row s C r
         insert_from r is x m a b (a_row u l k c q) = let d = above_key u l k in absurd (omega arith)
         insert_from r is x m a b (an_insert q k e p c j z l) =
-            let d : key ≡ j = ap key_or0 z in
+            let d : key ≡ j = same_Some key j z in
             let same : q.key ≡ key = omega arith in
             p ∙ ap (inserted_row s C)
-            (some-injective q r (sym (applied_to_is (applied C) q (applied_each g s C chosen sound_s) k) ∙ ap (applied_to (applied C)) same ∙ is))
+            (same_Some q r (sym (applied_to_is (applied C) q (applied_each g s C chosen sound_s) k) ∙ ap (applied_to (applied C)) same ∙ is))
 
-  pub at_start : (next : FirstKey) → LeastAbove (New s lost) 0 next → At g s lost 0 0 next
+  pub at_start : (next : Option ℕ) → LeastAbove (New s lost) 0 next → At g s lost 0 0 next
   at_start next c =
       record {
         passed = λ u l. absurd (omega arith);
@@ -295,10 +289,6 @@ module _ (g : Register) (s : Sheet) (lost : List ℕ) (sound_g : sound_register 
   pub all_written : (i after : ℕ) → At g s lost i after None → length g.rows ≤ i → up_to after (rows) ≡ rows
   all_written i after at h = up_to_all after (next_rising g s C chosen sound_g sound_s) (λ x m a. go x m a (from i after None at x m a))
     where
-      is_key : FirstKey → Bool
-      is_key (Key k) = true
-      is_key None = false
-
       go : (x : Row) (m : Memᴰ x (rows)) (a : after < x.key) → From i after None at x m a → ⊥
       go x m a (a_row u l k c q) = omega arith
-      go x m a (an_insert r k e p c j z l) = true≢false (sym (ap is_key z))
+      go x m a (an_insert r k e p c j z l) = none-some j z

@@ -3,123 +3,109 @@ use Prim.Native.Nat.{ℕ, ◌+◌, ◌-◌, ◌≤◌, ◌<◌}
 use mathlib.Core.Path.{◌≡◌, ◌∙◌, ap}
 use mathlib.Core.Bool.{true}
 use mathlib.Core.List.{List, [], ◌∷◌, ◌++◌}
-use mathlib.Core.Option.{some}
+use Rattle.std.specs.Prelude.{Option, None, Some}
 use native.Mathlib.Omega.{arith}
 use lib.ListN.{length, length-append}
-use Rattle.words.specs.Words.{Bytes}
 use Rattle.rules.specs.declared.row.Row.{Row}
 use Rattle.rules.specs.declared.row.Record.{Record}
-use Rattle.rules.specs.Register.{sound_register, register_in}
-use Rattle.rules.specs.Sheet.{sound_sheet, sheet_in}
-use Rattle.rules.specs.Becoming.{applied, applied_to, inserted_row}
-use Rattle.laws.specs.RegisterLaws.{register_sound}
-use Rattle.laws.specs.SheetLaws.{sheet_sound}
+use Rattle.rules.specs.Register.{Register, sound_register}
+use Rattle.rules.specs.Sheet.{Sheet, sound_sheet}
+use Rattle.rules.specs.Becoming.{applied, applied_to, row_after, inserted_row, rows_after}
+use Rattle.laws.specs.Choice.{Choice}
 use Rattle.registers.specs.declared.writing.Draft.{Draft}
 use Rattle.registers.specs.RegisterReadings.{row_at}
-use Rattle.registers.specs.RegisterWriting.{RowsFit, RowsAdded}
-use Rattle.registers.specs.RegisterWritten.{none_added, then_added, fits_on, fits_fewer}
-use Rattle.judging.specs.declared.key.FirstKey.{FirstKey}
-use Rattle.judging.specs.declared.key.FirstKey.TheVariants.{Key, None}
+use Rattle.registers.specs.RegisterWriting.{RowsAdded}
+use Rattle.registers.specs.RegisterWritten.{none_added, then_added}
 use Rattle.judging.specs.Tables.{committed_in}
 use Rattle.judging.specs.Judged.{LeastAbove}
-use Rattle.next_rows.specs.NextRow.{Committing, rows_next, inserted_rows, becomes, Later}
+use Rattle.next_rows.specs.NextRow.{inserted_rows, Later}
 use Rattle.next_rows.proofs.NextWritten.{up_to, up_to_length, New, At, old_next, old_written, insert_next, insert_record, at_start, none_written, all_written}
 
--- the next rows up to a key
-abbrev rows_to : Bytes → Bytes → List ℕ → ℕ → List Row
-rows_to register sheet lost after = up_to after (rows_next register sheet lost)
+-- the next rows
+abbrev next_rows : Register → Sheet → List (Option ℕ) → List Row
+next_rows g s lost = rows_after s (committed_in s lost) g.rows
 
--- from the draft d₀ and its buffer on the rows up to a key are put, and row i and the insert of `next` are to come
-pub record Standing (register sheet : Bytes) (lost : List ℕ) (d₀ : Draft) (l₀ : Bytes) (i : ℕ) (next : FirstKey) (d : Draft) (l : Bytes) : Type 0 where
+-- the next rows up to a key
+abbrev rows_to : Register → Sheet → List (Option ℕ) → ℕ → List Row
+rows_to g s lost after = up_to after (next_rows g s lost)
+
+-- from the draft d₀ on the rows up to a key are put, and row i and the insert of `next` are to come
+pub record Standing (g : Register) (s : Sheet) (lost : List (Option ℕ)) (d₀ : Draft) (i : ℕ) (next : Option ℕ) (d : Draft) : Type 0 where
   pub after : ℕ
-  pub at : At (register_in register) (sheet_in sheet) lost i after next
-  pub within : i ≤ length (register_in register).rows
-  pub added : RowsAdded (rows_to register sheet lost after) d₀ l₀ d l
+  pub at : At g s lost i after next
+  pub within : i ≤ length g.rows
+  pub added : RowsAdded (rows_to g s lost after) d₀ d
 
 -- the keys that are left to insert, at most
-abbrev pub keys_left : FirstKey → ℕ
+abbrev pub keys_left : Option ℕ → ℕ
 keys_left None = 0
-keys_left (Key k) = 4294967296 - k
+keys_left (Some k) = 4294967296 - k
 
-pub keys_fall : (P : ℕ → Type 0) (key : ℕ) {this : FirstKey} (next : FirstKey) → this ≡ Key key → key < 4294967296 → LeastAbove P key next → keys_left next < keys_left this
-keys_fall P key next e h l = rw e (go next l)
-  where
-    go : (next : FirstKey) → LeastAbove P key next → keys_left next < 4294967296 - key
-    go None l = omega arith
-    go (Key k) l = let a = l.above in omega arith
-
--- a register and a sheet, the table by which sets commit, and a draft whose buffer has room for the next rows
-module _ (register sheet : Bytes) (lost : List ℕ) (j : Committing register sheet lost)
-    (d₀ : Draft) (l₀ : Bytes) (fit : RowsFit d₀ (length (rows_next register sheet lost)) l₀) where
-  sound_g : sound_register (register_in register) ≡ true
-  sound_g = register_sound register j.is_register_lem
-
-  sound_s : sound_sheet (sheet_in sheet) ≡ true
-  sound_s = sheet_sound sheet j.is-sheet
-
-  pub standing_start : (next : FirstKey) → LeastAbove (New (sheet_in sheet) lost) 0 next → Standing register sheet lost d₀ l₀ 0 next d₀ l₀
+-- a register and a sheet, the table by which sets commit, and a draft that has the next rows left to put
+module _ (g : Register) (s : Sheet) (lost : List (Option ℕ)) (sound_g : sound_register g ≡ true) (sound_s : sound_sheet s ≡ true) (chosen : Choice g s (committed_in s lost))
+    (d₀ : Draft) (fit : d₀.put + length (next_rows g s lost) ≤ d₀.rows) where
+  pub standing_start : (next : Option ℕ) → LeastAbove (New s lost) 0 next → Standing g s lost d₀ 0 next d₀
   standing_start next c =
       record {
         after = 0;
-        at = at_start (register_in register) (sheet_in sheet) lost sound_g sound_s j.chosen next c;
+        at = at_start g s lost sound_g sound_s chosen next c;
         within = omega arith;
-        added = rw (none_written (register_in register) (sheet_in sheet) lost sound_g sound_s j.chosen) none_added;
+        added = rw (none_written g s lost sound_g sound_s chosen) none_added;
       }
 
-  module _ {d : Draft} {l : Bytes} {i : ℕ} {next : FirstKey} (st : Standing register sheet lost d₀ l₀ i next d l) where
+  module _ {d : Draft} {i : ℕ} {next : Option ℕ} (st : Standing g s lost d₀ i next d) where
     -- as many rows as are to be put fit
-    room : (k after : ℕ) → length (rows_to register sheet lost after) ≡ length (rows_to register sheet lost st.after) + k → RowsFit d k l
-    room k after e =
-        fits_on st.added k
-        (fits_fewer (length (rows_to register sheet lost st.after) + k) _ (omega (arith, e, up_to_length after (rows_next register sheet lost))) fit)
+    room : (k after : ℕ) → length (rows_to g s lost after) ≡ length (rows_to g s lost st.after) + k → d.put + k ≤ d.rows
+    room k after e = omega (arith, e, up_to_length after (next_rows g s lost), st.added.put, st.added.same, fit)
 
     -- a row is next
-    module _ (h : i < length (register_in register).rows) (before : Later (row_at (register_in register) i).key next) where
-      old_rows : rows_to register sheet lost (row_at (register_in register) i).key ≡ rows_to register sheet lost st.after ++ becomes register sheet lost i
-      old_rows = old_written (register_in register) (sheet_in sheet) lost sound_g sound_s j.chosen i st.after next st.at h before
+    module _ (h : i < length g.rows) (before : Later (row_at g i).key next) where
+      old_rows : rows_to g s lost (row_at g i).key ≡ rows_to g s lost st.after ++ row_after s (committed_in s lost) (row_at g i)
+      old_rows = old_written g s lost sound_g sound_s chosen i st.after next st.at h before
 
-      pub old_room : RowsFit d (length (becomes register sheet lost i)) l
+      pub old_room : d.put + length (row_after s (committed_in s lost) (row_at g i)) ≤ d.rows
       old_room =
-          room (length (becomes register sheet lost i)) (row_at (register_in register) i).key
-          (ap length old_rows ∙ length-append (rows_to register sheet lost st.after) (becomes register sheet lost i))
+          room (length (row_after s (committed_in s lost) (row_at g i))) (row_at g i).key
+          (ap length old_rows ∙ length-append (rows_to g s lost st.after) (row_after s (committed_in s lost) (row_at g i)))
 
-      pub standing_old : {e : Draft} {m : Bytes} → RowsAdded (becomes register sheet lost i) d l e m → Standing register sheet lost d₀ l₀ (i + 1) next e m
+      pub standing_old : {e : Draft} → RowsAdded (row_after s (committed_in s lost) (row_at g i)) d e → Standing g s lost d₀ (i + 1) next e
       standing_old p =
           record {
-            after = (row_at (register_in register) i).key;
-            at = old_next (register_in register) (sheet_in sheet) lost sound_g sound_s j.chosen i st.after next st.at h before;
+            after = (row_at g i).key;
+            at = old_next g s lost sound_g sound_s chosen i st.after next st.at h before;
             within = omega arith;
             added = rw old_rows (then_added st.added p);
           }
 
   -- an insert is next
-  module _ {d : Draft} {l : Bytes} {i key : ℕ} {this : FirstKey} (stands : Standing register sheet lost d₀ l₀ i this d l)
-      (is : (this ≡ Key key) × (i < length (register_in register).rows → key ≤ (row_at (register_in register) i).key)) where
-    st : Standing register sheet lost d₀ l₀ i (Key key) d l
+  module _ {d : Draft} {i key : ℕ} {this : Option ℕ} (stands : Standing g s lost d₀ i this d)
+      (is : (this ≡ Some key) × (i < length g.rows → key ≤ (row_at g i).key)) where
+    st : Standing g s lost d₀ i (Some key) d
     st = rw is.0 at stands
 
-    is-next : (r : Record) × (applied_to (applied (committed_in (sheet_in sheet) lost)) key ≡ some r)
-        × (rows_to register sheet lost key ≡ rows_to register sheet lost st.after ++ inserted_row (sheet_in sheet) (committed_in (sheet_in sheet) lost) r ∷ [])
-    is-next = insert_record (register_in register) (sheet_in sheet) lost sound_g sound_s j.chosen i st.after key st.at is.1
+    is-next : (r : Record) × (applied_to (applied (committed_in s lost)) key ≡ Some r)
+        × (rows_to g s lost key ≡ rows_to g s lost st.after ++ inserted_row s (committed_in s lost) r ∷ [])
+    is-next = insert_record g s lost sound_g sound_s chosen i st.after key st.at is.1
 
-    pub insert_room : RowsFit d 1 l
+    pub insert_room : d.put < d.rows
     insert_room =
-        room st 1 key (ap length is-next.2 ∙ length-append (rows_to register sheet lost st.after) (inserted_row (sheet_in sheet) (committed_in (sheet_in sheet) lost) is-next.0 ∷ []))
+        let fits = room st 1 key (ap length is-next.2 ∙ length-append (rows_to g s lost st.after) (inserted_row s (committed_in s lost) is-next.0 ∷ [])) in
+        omega arith
 
-    pub standing_insert : {e : Draft} {m : Bytes} (next : FirstKey)
-        → RowsAdded (inserted_rows (sheet_in sheet) (committed_in (sheet_in sheet) lost) key) d l e m
-        → LeastAbove (New (sheet_in sheet) lost) key next → Standing register sheet lost d₀ l₀ i next e m
+    pub standing_insert : {e : Draft} (next : Option ℕ)
+        → RowsAdded (inserted_rows s (committed_in s lost) key) d e
+        → LeastAbove (New s lost) key next → Standing g s lost d₀ i next e
     standing_insert next p c =
         let r = is-next in
         record {
           after = key;
-          at = insert_next (register_in register) (sheet_in sheet) lost sound_g sound_s j.chosen i st.after key st.at is.1 next c;
+          at = insert_next g s lost sound_g sound_s chosen i st.after key st.at is.1 next c;
           within = st.within;
           added = rw r.2 (then_added st.added (rw r.1 at p));
         }
 
-  pub standing_end : {d : Draft} {l : Bytes} {i : ℕ} {this : FirstKey} → Standing register sheet lost d₀ l₀ i this d l → (this ≡ None) × (length (register_in register).rows ≤ i)
-      → RowsAdded (rows_next register sheet lost) d₀ l₀ d l
-  standing_end {d} {l} {i} stands is =
-      let st : Standing register sheet lost d₀ l₀ i None d l = rw is.0 at stands in
-      rw (all_written (register_in register) (sheet_in sheet) lost sound_g sound_s j.chosen i st.after st.at is.1) at st.added
+  pub standing_end : {d : Draft} {i : ℕ} {this : Option ℕ} → Standing g s lost d₀ i this d → (this ≡ None) × (length g.rows ≤ i)
+      → RowsAdded (next_rows g s lost) d₀ d
+  standing_end {d} {i} stands is =
+      let st : Standing g s lost d₀ i None d = rw is.0 at stands in
+      rw (all_written g s lost sound_g sound_s chosen i st.after st.at is.1) at st.added

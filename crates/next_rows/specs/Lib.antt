@@ -1,2 +1,3 @@
-pub mod NextRow
 pub mod ByTables
+pub mod NextRow
+pub mod Views

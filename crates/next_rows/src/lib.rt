@@ -4,4 +4,4 @@
 mod becoming;
 mod rows;
 
-pub use rows::{next_count, put_rows};
+pub use rows::Committing;

@@ -1,75 +1,57 @@
--- What the tests of a struct say of it as an open set: zero bytes one after the other, then the tests together.
-use Prim.Native.Nat.{ℕ, ◌+◌, ◌*◌, ◌≤◌, ◌<◌}
-use mathlib.Core.Path.{◌≡◌, sym, ap, ◌∙◌}
-use mathlib.Core.Bool.{Bool, true, false}
-use native.Mathlib.Numerals.{add-one}
-use native.Mathlib.Omega.{arith}
-use borrow.Author.Tests.{eq-eqb, ne_eqb, le-leb, lt-leb}
-use lib.ListN.{length, get_or, drop, length-take, drop_of_length-le}
-use lib.Seq.{drop-cons}
-use lib.Dec.{leb, eqb}
-use Rattle.words.specs.Words.{Bytes}
+-- What the tests of a struct say of it as an open set, and how much of it is offered.
+use Rattle.std.proofs.Common.{ℕ, ◌*◌, ◌≤◌, ◌≡◌, refl, sym, ap, ◌∙◌, Bool, true, false, leb, eqb, ◌&&◌, ◌||◌, length, take, drop, arith, leb-true, le-leb, eqb-true}
+use Rattle.std.proofs.lemmas.Bool.{eqb-false}
+use Rattle.std.proofs.Math.Logic.{⊎_elim}
 use Rattle.rules.specs.declared.desk.OpenSet.{OpenSet}
-use Rattle.rules.specs.Lists.{◌and◌, all}
-use Rattle.rules.specs.Sheet.{max_records, are_records}
+use Rattle.rules.specs.Lists.{◌and◌, ◌or◌, all}
+use Rattle.rules.specs.Sheet.{offered_records, are_records}
 use Rattle.rules.specs.OpenSet.{is_open_set, open_records, offered_bytes}
-use Rattle.laws.specs.Tests.{both, not_true_false}
-use Rattle.laws.specs.Says.{clash}
+use Rattle.laws.specs.Tests.{left, right, both, or→, or_left, or_right, same_tests}
+use Rattle.laws.specs.Chains.{and-is, or-is}
 use Rattle.laws.specs.SheetLaws.{records_length}
-use Rattle.laws.specs.OpenSets.{front, behind, parts, open_count, offered_front, offered_none, offers_records}
-
-abbrev zeroes : Bytes → Bool
-zeroes b = all (λ x. eqb x 0) b
-
-module _ (b : Bytes) (from i : ℕ) (inv : zeroes (drop from b) ≡ zeroes (drop i b)) where
-  here : i < length b → zeroes (drop i b) ≡ eqb (get_or b i 0) 0 and zeroes (drop (i + 1) b)
-  unfolding all
-  here l = ap zeroes (drop-cons b i 0 l) ∙ ap (λ (k : ℕ). eqb (get_or b i 0) 0 and zeroes (drop k b)) (sym (add-one i))
-
-  pub not_zero : i < length b → (get_or b i 0 ≡ 0 → ⊥) → false ≡ zeroes (drop from b)
-  unfolding ◌and◌
-  not_zero l h = sym (inv ∙ here l ∙ ap (λ (t : Bool). t and zeroes (drop (i + 1) b)) (ne_eqb (get_or b i 0) 0 h))
-
-  pub zero_here : i < length b → get_or b i 0 ≡ 0 → zeroes (drop from b) ≡ zeroes (drop (i + 1) b)
-  unfolding ◌and◌
-  zero_here l e = inv ∙ here l ∙ ap (λ (t : Bool). t and zeroes (drop (i + 1) b)) (eq-eqb (get_or b i 0) 0 e)
-
-  pub all_zero : length b ≤ i → true ≡ zeroes (drop from b)
-  unfolding all
-  all_zero l = sym (inv ∙ ap zeroes (drop_of_length-le b {i = i} l))
-
--- ---- an open set, by its tests
+use Rattle.laws.specs.OpenSets.{front, behind, parts, open_count, none_opened, some_opened, offered_front, offered_none, offered_records_lem, offers_records}
 
 module _ (o : OpenSet) where
-  pub too_many_lem : 8 < o.count → false ≡ is_open_set o
-  too_many_lem h = sym (not_true_false (λ e. over h (parts o e).few))
+  -- its tests
+  open_tested : length o.records ≡ 128 → is_open_set o ≡ leb o.count 8 and all (λ x. eqb x 0) (behind o) and (eqb o.count 0 or are_records (front o))
+  open_tested long = same_tests _ _ passed are_enough
     where
-      over : 8 < o.count → o.count ≤ 8 → ⊥
-      over h k = omega arith
+      some : is_open_set o ≡ true → (t : Bool) → eqb o.count 0 ≡ t → eqb o.count 0 or are_records (front o) ≡ true
+      some e true q = or_left _ _ q
+      some e false q =
+          let n = eqb-false o.count 0 q in
+          or_right _ _ (ap are_records (sym (offered_front o e)) ∙ offers_records o ∙ both e (le-leb 1 o.count (omega arith)))
 
-  pub bytes_behind : zeroes (behind o) ≡ false → false ≡ is_open_set o
-  bytes_behind h = sym (not_true_false (λ e. clash (parts o e).zeros h))
+      passed : is_open_set o ≡ true → leb o.count 8 and all (λ x. eqb x 0) (behind o) and (eqb o.count 0 or are_records (front o)) ≡ true
+      passed e = let p = parts o e in both (le-leb o.count 8 p.few) (both p.zeros (some e (eqb o.count 0) refl))
 
-  pub no_records : (o.count ≡ 0 → ⊥) → are_records (front o) ≡ false → false ≡ is_open_set o
-  no_records n h = sym (not_true_false (λ e. clash (records e) h))
+      are_enough : leb o.count 8 and all (λ x. eqb x 0) (behind o) and (eqb o.count 0 or are_records (front o)) ≡ true → is_open_set o ≡ true
+      are_enough e =
+          let few = leb-true o.count 8 (left _ _ e) in
+          let zeros = left _ _ (right _ _ e) in
+          ⊎_elim
+          (λ q. none_opened o long (eqb-true o.count 0 q) zeros)
+          (λ q. some_opened o long few q zeros)
+          (or→ (eqb o.count 0) (are_records (front o)) (right _ _ (right _ _ e)))
+
+  -- THESE TESTS DECIDE WHETHER IT IS ONE, in std's words
+  pub open_tests : length o.records ≡ 128 → is_open_set o ≡ (leb o.count 8 && (all (λ x. eqb x 0) (drop (16 * o.count) o.records) && (eqb o.count 0 || are_records (take (16 * o.count) o.records))))
+  open_tests long = open_tested long ∙ same (leb o.count 8) (all (λ x. eqb x 0) (behind o)) (eqb o.count 0) (are_records (front o))
     where
-      records : is_open_set o ≡ true → are_records (front o) ≡ true
-      records e = ap are_records (sym (offered_front o e)) ∙ offers_records o ∙ both e (le-leb 1 o.count (omega arith))
+      same : (a b c d : Bool) → a and b and (c or d) ≡ (a && (b && (c || d)))
+      same a b c d = sym (ap (λ t. a && (b && t)) (or-is c d) ∙ ap (λ t. a && t) (and-is b (c or d)) ∙ and-is a (b and (c or d)))
+
+  pub few_records : is_open_set o ≡ true → o.count ≤ 8
+  few_records e = (parts o e).few
+
+  -- its records are those in front
+  pub front_records : is_open_set o ≡ true → offered_records (front o) ≡ open_records o
+  front_records e = ap offered_records (sym (offered_front o e)) ∙ offered_records_lem o e
 
   -- how long what it offers is
-  pub front_length : length o.records ≡ 128 → o.count ≤ 8 → 16 * o.count ≡ length (front o)
-  front_length long few = simp length-take (omega arith)
-
   pub offered_long : is_open_set o ≡ true → 16 * o.count ≡ length (offered_bytes o)
   unfolding offered_bytes
   offered_long e = simp e (ap (λ (k : ℕ). 16 * k) (sym (open_count o)) ∙ sym (records_length (open_records o)))
 
   pub offered_short : is_open_set o ≡ false → 0 ≡ length (offered_bytes o)
   offered_short e = ap length (sym (offered_none o e))
-
-  -- it is full
-  pub full : 8 ≤ o.count → true ≡ leb max_records (length (open_records o))
-  full h = sym (le-leb max_records (length (open_records o)) (rw (open_count o) h))
-
-  pub not_full : o.count < 8 → false ≡ leb max_records (length (open_records o))
-  not_full h = sym (lt-leb max_records (length (open_records o)) (rw (open_count o) h))

@@ -1,5 +1,5 @@
 // Whether a struct is an open set, and how many bytes of it are offered.
-ghost use Rattle.std.specs.Prelude.{◌≡◌, length, drop, leb, eqb};
+ghost use Rattle.std.specs.Prelude.{◌≡◌, length, leb, eqb};
 ghost use Rattle.rules.specs.Lists.{all};
 ghost use Rattle.rules.specs.Sheet.{max_records};
 ghost use Rattle.rules.specs.OpenSet.{is_open_set, open_records, offered_bytes};
@@ -7,60 +7,41 @@ ghost use Rattle.rules.specs.OpenSet.{is_open_set, open_records, offered_bytes};
 use examine::are_records;
 use rules::{MAX_RECORDS, OpenSet};
 
-// Whether all bytes from a place on are zero.
-fn zero_from(b: &[u8], from: usize) -> bool
-    ensures { result ≡ all (λ x. eqb x 0) (drop from b.now) }
+// Whether all bytes are zero.
+fn are_zero(b: &[u8]) -> bool
+    ensures { result ≡ all (λ x. eqb x 0) b.now }
 {
-    let mut i = from;
-    while i < b.len() {
-        if b[i] != 0 {
-            return false;
-        }
-        i += 1;
-    }
-    true
+    b.iter().all(|x| *x == 0)
 }
 
 // At most eight records, zeros behind them, and in front of these the bytes of a set, unless there is none.
-#[tactic(auto, using(crate::proofs::OpenLaws::too_many_lem))]
+#[tactic(auto, using(crate::proofs::OpenLaws::open_tests, std::proofs::lemmas::Bool::Decides::nat_tests))]
 pub fn is_open_set(set: OpenSet) -> bool
     ensures { result ≡ is_open_set set }
 {
-    let count = set.count;
-    if MAX_RECORDS < count {
+    if set.count > MAX_RECORDS {
         return false;
     }
-    let n = 16 * (count as usize);
-    let records = set.records;
-    if !zero_from(&records, n) {
-        return false;
-    }
-    if count == 0 {
-        return true;
-    }
-    if !are_records(&records[..n]) {
-        return false;
-    }
-    true
+    let (records, rest) = set.records.split_at(16 * set.count as usize);
+    are_zero(rest) && (set.count == 0 || are_records(records))
 }
 
 // Whether it has as many records as a set may have.
+#[tactic(auto, using(laws::specs::OpenSets::open_count, std::proofs::lemmas::Bool::Decides::nat_tests))]
 pub fn is_full(set: OpenSet) -> bool
     ensures { result ≡ leb max_records (length (open_records set)) }
 {
-    if set.count < MAX_RECORDS {
-        return false;
-    }
-    true
+    set.count >= MAX_RECORDS
 }
 
 // How many bytes are offered: those of the records, or none where it is no open set.
+#[tactic(auto, using(crate::proofs::OpenLaws::offered_long, crate::proofs::OpenLaws::offered_short))]
 pub fn offered_length(set: OpenSet) -> usize
     ensures { result ≡ length (offered_bytes set) }
 {
-    if !is_open_set(set) {
-        return 0;
+    if is_open_set(set) {
+        16 * set.count as usize
+    } else {
+        0
     }
-    let count = set.count;
-    16 * (count as usize)
 }

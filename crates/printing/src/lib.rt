@@ -3,4 +3,4 @@
 
 mod shown;
 
-pub use shown::{FILLED, show_answer, show_bytes, show_left, show_refused, show_wrote};
+pub use shown::{Answered, FILLED, Left, Refused, Shown};

@@ -1,3 +1,2 @@
-pub mod InputCases
 pub mod PrintLaws
 pub mod SmallKeys

@@ -4,7 +4,7 @@ use mathlib.Core.Path.{◌≡◌, refl}
 use mathlib.Core.Bool.{true}
 use mathlib.Core.List.Memᴰ
 use mathlib.Core.List.{Memᴰ}
-use mathlib.Core.Option.{Option, none, some}
+use Rattle.std.specs.Prelude.{Option, None, Some}
 use lib.Dec.{lit<}
 use Rattle.rules.specs.declared.row.Record.{Record}
 use Rattle.rules.specs.declared.answer.Verdict.{Verdict}
@@ -17,11 +17,11 @@ use Rattle.laws.specs.ListLaws.{all→, first→}
 use Rattle.laws.specs.Commits.{set_records}
 use Rattle.forms.specs.VerdictsBack.{Small}
 
-judged_small : (a b : Option Record) → ((r : Record) → a ≡ some r → r.key < 256 ^ 4) → ((r : Record) → b ≡ some r → r.key < 256 ^ 4) → Small (judged a b)
+judged_small : (a b : Option Record) → ((r : Record) → a ≡ Some r → r.key < 256 ^ 4) → ((r : Record) → b ≡ Some r → r.key < 256 ^ 4) → Small (judged a b)
 unfolding judged
-judged_small (some r) b f h = f r refl
-judged_small none (some r) f h = h r refl
-judged_small none none f h = lit< tt
+judged_small (Some r) b f h = f r refl
+judged_small None (Some r) f h = h r refl
+judged_small None None f h = lit< tt
 
 module _ (g : Register) (s : Sheet) (sound : sound_sheet s ≡ true) where
   record_small : (w : WriteSet) → Memᴰ w s.sets → (r : Record) → Memᴰ r w.records → r.key < 256 ^ 4

@@ -4,7 +4,7 @@ ghost use Rattle.report.specs.Report.{Put, report_room};
 ghost use Rattle.program.specs.Printed.{closed_text};
 
 use report::{put_refused, write_report};
-use rules::{Closed, REGISTER_ROOM, VERDICT_ROOM};
+use rules::{REGISTER_ROOM, VERDICT_ROOM};
 
 // The report or the refusal, at the start of out.
 pub fn write_closed(register: &[u8], sheet: &[u8], out: &mut [u8]) -> usize
@@ -13,12 +13,8 @@ pub fn write_closed(register: &[u8], sheet: &[u8], out: &mut [u8]) -> usize
 {
     let mut next = [0u8; REGISTER_ROOM];
     let mut verdicts = [0u8; VERDICT_ROOM];
-    let answer = merge::close(register, sheet, &mut next, &mut verdicts);
-    match answer {
-        Closed::Wrote {
-            register: n,
-            verdicts: _,
-        } => { write_report(&next[..n], sheet, &verdicts, out) }
-        Closed::Refused(x) => put_refused(out, 0, x.number()),
+    match merge::close(register, sheet, &mut next, &mut verdicts) {
+        Ok(written) => write_report(&next[..written.register], sheet, &verdicts, out),
+        Err(x) => put_refused(out, 0, u32::from(x)),
     }
 }

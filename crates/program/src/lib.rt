@@ -10,20 +10,21 @@ ghost use Rattle.program.specs.Printed.{Ran};
 use closed::write_closed;
 use input::{read_register, read_sheets};
 use report::put_refused;
-use rules::{Answer, Extent, REGISTER_ROOM, Refusal, SHEET_ROOM};
+use rules::{REGISTER_ROOM, Refusal, SHEET_ROOM};
+use std::os::fd::RawFd;
 
 // The text of a run on an open file, at the start of out. The first refusal met is all that is printed.
-pub fn run(file: i32, out: &mut [u8]) -> usize
+pub fn run(file: RawFd, out: &mut [u8]) -> usize
     requires { report_room ≤ length out.old }
     ensures { (Ran out.old out.new result) × (result ≤ report_room) }
 {
     let mut register = [0u8; REGISTER_ROOM];
-    let Extent::Of(n) = read_register(file, &mut register) else {
-        return put_refused(out, 0, Refusal::RegisterIllFormed.number());
+    let Some(n) = read_register(file, &mut register) else {
+        return put_refused(out, 0, u32::from(Refusal::RegisterIllFormed));
     };
     let mut sheet = [0u8; SHEET_ROOM];
     match read_sheets(file, &mut sheet) {
-        Answer::Wrote(len) => write_closed(&register[..n], &sheet[..len], out),
-        Answer::Refused(x) => put_refused(out, 0, x.number()),
+        Ok(len) => write_closed(&register[..n], &sheet[..len], out),
+        Err(x) => put_refused(out, 0, u32::from(x)),
     }
 }

@@ -3,4 +3,4 @@
 
 mod checking;
 
-pub use checking::{run_check, run_list};
+pub use checking::{Checked, run_check, run_list};

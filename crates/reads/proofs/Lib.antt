@@ -1,5 +1,3 @@
 pub mod RowLaws
-pub mod EntryLaws
-pub mod StepLaws
+pub mod CheckLaws
 pub mod PairLaws
-pub mod Loop

@@ -1,58 +1,32 @@
 -- Two lists of numbers as one of entries.
-use Rattle.std.specs.Prelude.{if◌then◌else◌}
-use Prim.Native.Nat.{ℕ, zero, suc, ◌<◌}
-use mathlib.Core.Path.{◌≡◌, refl, ap}
-use mathlib.Core.Bool.{Bool, true, false}
-use mathlib.Core.List.{List, [], ◌∷◌}
-use mathlib.Core.Option.{Option, none, some}
-use native.Mathlib.Omega.{arith}
-use lib.ListN.{length, get_or}
-use Rattle.words.specs.Words.{Bytes}
-use Rattle.rules.specs.Register.{Register, read_register}
-use Rattle.rules.specs.ReadCheck.{Finding, check_from, with_read, reads_of}
-use Rattle.rules.specs.Refused.{refused, done, bad_check, check_reads, reads_outcome, check_outcome}
-use Rattle.reads.specs.Steps.{ill_formed, entries}
-use Rattle.reads.proofs.StepLaws.{no_read}
+use Rattle.std.proofs.Common.{ℕ, zero, suc, ◌<◌, ◌≡◌, refl, ap, List, [], ◌∷◌, length, get_or, arith, None, Some}
+use Rattle.rules.specs.declared.row.Read.{Read}
+use Rattle.rules.specs.ReadCheck.{with_read, reads_of}
+use Rattle.reads.specs.Checks.{no_read}
 
-paired : (ks cs : List ℕ) → length ks ≡ length cs → reads_of ks cs ≡ some (entries ks cs)
-unfolding reads_of entries with_read
-paired [] [] h = refl
+-- of lists of equal length: the entries that they give, place by place
+pub record Paired (ks cs : List ℕ) : Type 0 where
+  pub reads : List Read
+  pub given : reads_of ks cs ≡ Some reads
+  pub long : length reads ≡ length ks
+  pub each : (i : ℕ) → i < length ks → record { key = get_or ks i 0; csn = get_or cs i 0 } ≡ get_or reads i no_read
+
+pub paired : (ks cs : List ℕ) → length ks ≡ length cs → Paired ks cs
+unfolding reads_of with_read
+paired [] [] h = record { reads = []; given = refl; long = refl; each = λ i l. absurd (omega arith) }
 paired [] (c ∷ cs) h = absurd (omega arith)
 paired (k ∷ ks) [] h = absurd (omega arith)
-paired (k ∷ ks) (c ∷ cs) h = rw (paired ks cs (omega arith))
+paired (k ∷ ks) (c ∷ cs) h =
+    let p = paired ks cs (omega arith) in
+    record { reads = record { key = k; csn = c } ∷ p.reads; given = rw p.given; long = ap suc p.long; each = at p }
+  where
+    at : (p : Paired ks cs) (i : ℕ) → i < suc (length ks) → record { key = get_or (k ∷ ks) i 0; csn = get_or (c ∷ cs) i 0 } ≡ get_or (record { key = k; csn = c } ∷ p.reads) i no_read
+    at p zero l = refl
+    at p (suc i) l = p.each i (omega arith)
 
-unpaired : (ks cs : List ℕ) → (length ks ≡ length cs → ⊥) → reads_of ks cs ≡ none
+pub unpaired : (ks cs : List ℕ) → (length ks ≡ length cs → ⊥) → reads_of ks cs ≡ None
 unfolding reads_of with_read
 unpaired [] [] h = absurd (h refl)
 unpaired [] (c ∷ cs) h = refl
 unpaired (k ∷ ks) [] h = refl
 unpaired (k ∷ ks) (c ∷ cs) h = rw (unpaired ks cs (λ e. h (ap suc e)))
-
-pub entries_length : (ks cs : List ℕ) → length ks ≡ length cs → length (entries ks cs) ≡ length ks
-unfolding entries
-entries_length [] cs h = refl
-entries_length (k ∷ ks) [] h = absurd (omega arith)
-entries_length (k ∷ ks) (c ∷ cs) h = ap suc (entries_length ks cs (omega arith))
-
-pub entries_at : (ks cs : List ℕ) (i : ℕ) → length ks ≡ length cs → i < length ks → record { key = get_or ks i 0; csn = get_or cs i 0 } ≡ get_or (entries ks cs) i no_read
-unfolding entries
-entries_at [] cs i h l = absurd (omega arith)
-entries_at (k ∷ ks) [] i h l = absurd (omega arith)
-entries_at (k ∷ ks) (c ∷ cs) zero h l = refl
-entries_at (k ∷ ks) (c ∷ cs) (suc i) h l = entries_at ks cs i (omega arith) (omega arith)
-
-pub check_paired : (b : Bytes) (mode lsn : ℕ) (ks cs : List ℕ) → length ks ≡ length cs → check_outcome b mode lsn ks cs ≡ reads_outcome b mode lsn (entries ks cs)
-unfolding check_outcome reads_outcome
-check_paired b mode lsn ks cs h = rw (paired ks cs h)
-
-pub check_unpaired : (b : Bytes) (mode lsn : ℕ) (ks cs : List ℕ) → (length ks ≡ length cs → ⊥) → check_outcome b mode lsn ks cs ≡ ill_formed (reads_outcome b mode lsn [])
-unfolding check_outcome reads_outcome
-check_unpaired b mode lsn ks cs h = rw (unpaired ks cs h) (go (read_register b))
-  where
-    fin : (t : Bool) (f : Finding) → refused 10 ≡ ill_formed (if t then refused 10 else done f)
-    fin true f = refl
-    fin false f = refl
-
-    go : (r : Option Register) → check_reads r mode lsn none ≡ ill_formed (check_reads r mode lsn (some []))
-    go none = unfold check_reads in refl
-    go (some g) = unfold check_reads in fin (bad_check g mode lsn []) (check_from g mode lsn 0 [])

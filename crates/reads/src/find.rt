@@ -1,28 +1,22 @@
-// The row of a register that bears a key, by halving.
-ghost use Rattle.std.specs.Prelude.{◌≡◌, true};
-ghost use Rattle.rules.specs.Register.{register_in, is_register};
-ghost use Rattle.reads.specs.Steps.{row_of, row_with};
+// The row of a register that bears a key.
+ghost use Rattle.std.specs.Prelude.{◌≡◌};
+ghost use Rattle.registers.specs.Views.{register_of};
+ghost use Rattle.reads.specs.Entries.{row_with};
 
-use forms::{row, row_count, row_key};
+use forms::Register;
 use rules::Row;
 
-#[derive(Clone, Copy)]
-pub enum Found {
-    There(Row),
-    Absent,
-}
-
-pub fn find(register: &[u8], key: u32) -> Found
-    requires { is_register register.now ≡ true }
-    ensures { row_of result ≡ row_with (register_in register.now) key }
+// Halved by hand: rows are read from bytes where they stand, so there is no slice of them that a library could search.
+pub fn find(register: &Register, key: u32) -> Option<Row>
+    ensures { result ≡ row_with (register_of register.now) key }
 {
-    let mut lo: usize = 0;
-    let mut hi = row_count(register);
+    let mut lo = 0;
+    let mut hi = register.row_count();
     while lo < hi {
         let mid = lo + (hi - lo) / 2;
-        let k = row_key(register, mid);
+        let k = register.row_key(mid);
         if k == key {
-            return Found::There(row(register, mid));
+            return Some(register.row(mid));
         }
         if k < key {
             lo = mid + 1;
@@ -30,5 +24,5 @@ pub fn find(register: &[u8], key: u32) -> Found
             hi = mid;
         }
     }
-    Found::Absent
+    None
 }

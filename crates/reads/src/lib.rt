@@ -1,12 +1,9 @@
 // A depot's own read check: whether what it read still stands in its register.
 #![tactic(auto)]
 
-mod answer;
-mod entry;
+mod checking;
 mod find;
-mod list;
+mod lists;
 mod mode;
-mod pairs;
 
-pub use list::check_reads;
-pub use pairs::check;
+pub use lists::{check, check_reads};

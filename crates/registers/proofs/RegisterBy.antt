@@ -1,21 +1,22 @@
 -- Which tests on the bytes decide whether they are a register, and what its readings mean.
+use Rattle.std.specs.Prelude.{Option, None, Some, not, eqb}
+use Rattle.std.specs.Option.{option_eq}
 use Prim.Native.Nat.{ℕ, zero, suc, ◌+◌, ◌*◌, ◌<◌, ◌≤◌}
 use mathlib.Core.Path.{◌≡◌, refl, sym, ◌∙◌, ap, ap₂}
-use mathlib.Core.Bool.{true, false}
+use mathlib.Core.Bool.{Bool, true, false}
 use mathlib.Core.List.{◌∷◌, ◌++◌, map}
 use native.Mathlib.Omega.{arith}
-use borrow.Author.Tests.{le-leb}
+use borrow.Author.Tests.{le-leb, eq-eqb, eqb-true}
 use lib.ListN.{length, get_or, take, drop, length-map, length-take, get_or-map}
 use lib.Seq.{take-add, drop-drop, take_all, get_or-take}
 use Rattle.words.specs.Words.{Bytes, le, word, part}
 use Rattle.words.specs.WordLaws.{le_word, word_fits, word_same}
-use Rattle.rules.specs.declared.extent.Extent.TheVariants.{Of, NoForm}
 use Rattle.rules.specs.Lists.{all, flat, ascend_from}
 use Rattle.rules.specs.Register.{key_of, max_rows, sound_row, row_bytes, register_bytes, row_in, rows_in, register_in, is_register}
 use Rattle.laws.specs.Tests.{both}
 use Rattle.laws.specs.FormLaws.{→fits}
 use Rattle.laws.specs.BytesHere.{Octets}
-use Rattle.laws.specs.Says.{Says, no_of, is_lt, is_le, shaped, ◌also◌, clash, each, ascends}
+use Rattle.laws.specs.Says.{Says, no_of, is_lt, is_le, shaped, ◌also◌, clash, said_yes, said_no, each, ascends}
 use Rattle.laws.specs.RegisterLaws.{sound_row→, RegisterSound, sound_register→, →sound_register, rows_in_length, rows_in_at, register_length_lem, register_sound, register_exact, register_yes}
 use Rattle.registers.specs.RegisterReadings.{no_row, row_at}
 use Rattle.registers.specs.RegisterForm.{place_of, key_before, in_order, length_from}
@@ -151,9 +152,15 @@ sized b e =
     let long : length b ≡ 8 + 28 * word 4 b 4 = sym (ap length (register_exact b e)) ∙ register_length_lem (register_in b) ∙ ap (λ (k : ℕ). 8 + 28 * k) (count_in b) in
     record { head = omega arith; few = omega (arith, count_in b, (sound_register→ (register_in b) (register_sound b e)).few); long = long }
 
--- a row that the register has lies within its bytes
-pub row_room : (b : Bytes) → is_register b ≡ true → (i : ℕ) → i < length (register_in b).rows → place_of i + 28 ≤ length b
-row_room b e i h = omega (arith, count_in b, (sized b e).long)
+-- in the words of the readings: how long it is, and how many rows it has
+pub long : (b : Bytes) → is_register b ≡ true → length b ≡ place_of (length (register_in b).rows)
+long b e = omega (arith, count_in b, (sized b e).long)
+
+pub few : (b : Bytes) → is_register b ≡ true → length (register_in b).rows ≤ max_rows
+few b e = omega (arith, count_in b, (sized b e).few)
+
+-- for the views' goals
+pub ruleset readings = (long, few, snapshot_in, count_in, row_in_lem, key_in_lem)
 
 register_told : (b : Bytes) → is_register b ≡ true → (i : ℕ) → i < word 4 b 4 → InOrder b i (key_before b i) (word 4 b 0)
 unfolding register_in
@@ -188,22 +195,24 @@ row_fails b o i h p q e =
 -- ---- the length that a head tells
 
 -- A REGISTER'S OWN LENGTH IS WHAT ITS HEAD TELLS, however much of it is seen
-pub own_length : (b : Bytes) → is_register b ≡ true → (n : ℕ) → 8 ≤ n → length_from (take n b) ≡ Of (length b)
+pub own_length : (b : Bytes) → is_register b ≡ true → (n : ℕ) → 8 ≤ n → length_from (take n b) ≡ Some (length b)
 own_length b e n h =
     let w = sized b e in
     let seen : 8 ≤ length (take n b) = simp length-take (omega arith) in
     let count : word 4 (take n b) 4 ≡ word 4 b 4 = word_same 4 (take n b) b 4 (λ k l m. get_or-take n b k 0 (omega arith)) in
-    length_told (take n b) seen (omega arith) ∙ ap Of (omega arith)
+    length_told (take n b) seen (omega arith) ∙ ap Some (omega arith)
 
--- bytes that are as long as their head tells
-pub as_told : (b : Bytes) (n : ℕ) → length_from b ≡ Of n → n ≡ length b → Sized b
-as_told b n e h = let w = head_told b n e in record { head = w.0; few = w.1; long = omega (arith, w.2) }
+-- `register_length(b) != Some(b.len())`: where it is false the bytes are as long as their head tells, and else they are no register
+module _ (b : Bytes) {t : Option ℕ} {r : Bool} (told : t ≡ length_from b) (test : r ≡ not (option_eq eqb t (Some (length b)))) where
+  sized_says : Says (option_eq eqb t (Some (length b))) (Sized b)
+  sized_says = record { told = λ e. as_told t told e; test = λ f. rw (told, length_told b f.head f.few) (eq-eqb _ _ (sym f.long)) }
+    where
+      as_told : (t : Option ℕ) → t ≡ length_from b → option_eq eqb t (Some (length b)) ≡ true → Sized b
+      as_told None p e = cc
+      as_told (Some n) p e = let w = head_told b n (sym p) in record { head = w.0; few = w.1; long = omega (arith, w.2, eqb-true n (length b) e) }
 
--- bytes that tell no length, or another than theirs, are no register
-pub no_length : (b : Bytes) → Octets b → length_from b ≡ NoForm → false ≡ is_register b
-no_length b o e =
-    no_of (register_says b o) (λ f. let p : Of (place_of (word 4 b 4)) ≡ NoForm = sym (length_told b f.sized.head f.sized.few) ∙ e in
-    let z : ◌≡◌ {A = ℕ} 0 1 = cc in omega arith)
+  pub is_sized : r ≡ false → Sized b
+  is_sized e = sized_says.told (said_yes refl (sym test ∙ e))
 
-pub other_length : (b : Bytes) → Octets b → (n : ℕ) → length_from b ≡ Of n → (n ≡ length b → ⊥) → false ≡ is_register b
-other_length b o n e h = no_of (register_says b o) (λ f. h (omega (arith, (head_told b n e).2, f.sized.long)))
+  pub not_sized : Octets b → r ≡ true → false ≡ is_register b
+  not_sized o e = no_of (register_says b o) (λ f. clash (sized_says.test f.sized) (said_no refl (sym test ∙ e)))

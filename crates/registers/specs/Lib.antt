@@ -4,3 +4,4 @@ pub mod RegisterWriting
 pub mod RegisterWritten
 pub mod RegisterLength
 pub mod RowsRise
+pub mod Views

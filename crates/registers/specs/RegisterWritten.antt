@@ -9,8 +9,8 @@ use Rattle.rules.specs.Refused.{register_room}
 use Rattle.rules.specs.Promises.{over}
 use Rattle.laws.specs.RegisterLaws.{register_length_lem}
 use Rattle.registers.specs.declared.writing.Draft.{Draft}
-use Rattle.registers.specs.RegisterForm.{register_head}
-use Rattle.registers.specs.RegisterWriting.{register_length, RowsPut, RowsFit, RowsAdded}
+use Rattle.registers.specs.RegisterForm.{register_length, register_head}
+use Rattle.registers.specs.RegisterWriting.{RowsPut, RowsAdded}
 
 -- ---- lengths
 
@@ -24,42 +24,31 @@ register_long g = register_length_lem g
 
 -- ---- steps
 
-module _ {d : Draft} {l : Bytes} where
-  pub none_added : RowsAdded [] d l d l
-  none_added =
-      record {
-        same = refl;
-        put = sym (add-zero d.put);
-        long = refl;
-        behind = λ s stood before p. rw append-nil p;
-      }
+pub none_added : {d : Draft} → RowsAdded [] d d
+none_added {d} = record { lent = refl; same = refl; put = sym (add-zero d.put); long = refl; behind = λ s stood before p. rw append-nil p }
 
-  pub then_added : {e f : Draft} {m n : Bytes} {xs ys : List Row} → RowsAdded xs d l e m → RowsAdded ys e m f n → RowsAdded (xs ++ ys) d l f n
-  then_added {xs = xs} {ys = ys} p q =
-      record {
-        same = q.same ∙ p.same;
-        put = omega (arith, p.put, q.put, length-append xs ys);
-        long = q.long ∙ p.long;
-        behind = λ s stood before r. rw (append_assoc stood xs ys) at (q.behind s (stood ++ xs) before (p.behind s stood before r));
-      }
+pub then_added : {d e f : Draft} {xs ys : List Row} → RowsAdded xs d e → RowsAdded ys e f → RowsAdded (xs ++ ys) d f
+then_added {xs = xs} {ys = ys} p q =
+    record {
+      lent = q.lent ∙ p.lent;
+      same = q.same ∙ p.same;
+      put = omega (arith, p.put, q.put, length-append xs ys);
+      long = q.long ∙ p.long;
+      behind = λ s stood before r. rw (append_assoc stood xs ys) at (q.behind s (stood ++ xs) before (p.behind s stood before r));
+    }
 
-  -- what is left to be put fits behind what was added
-  pub fits_on : {e : Draft} {m : Bytes} {xs : List Row} → RowsAdded xs d l e m → (k : ℕ) → RowsFit d (length xs + k) l → RowsFit e k m
-  fits_on p k h =
-      record {
-        few = rw p.same h.few;
-        room = rw (p.same, p.long) h.room;
-        left = omega (arith, p.same, p.put, h.left);
-      }
+-- what is left to be put fits behind what was added
+pub fits_on : {d e : Draft} {xs : List Row} → RowsAdded xs d e → (k : ℕ) → d.put + (length xs + k) ≤ d.rows → e.put + k ≤ e.rows
+fits_on p k h = omega (arith, p.same, p.put, h)
 
-  pub fits_fewer : (j k : ℕ) → j ≤ k → RowsFit d k l → RowsFit d j l
-  fits_fewer j k h r = record { few = r.few; room = r.room; left = omega (arith, r.left) }
+pub fits_fewer : (d : Draft) (j k : ℕ) → j ≤ k → d.put + k ≤ d.rows → d.put + j ≤ d.rows
+fits_fewer d j k h r = omega (arith, h, r)
 
 -- ---- the end
 
 -- WHERE ALL ROWS ARE PUT THE REGISTER STANDS, over what the buffer held
-pub finished : (g : Register) {before after : Bytes} {d : Draft} → d.rows ≡ length g.rows → register_length d.rows ≤ length before
-    → RowsPut g.snapshot g.rows before d after → after ≡ over before (register_bytes g)
+pub finished : (g : Register) {before : Bytes} {d : Draft} → d.rows ≡ length g.rows → register_length d.rows ≤ length before
+    → RowsPut g.snapshot g.rows before d → d.out.now ≡ over before (register_bytes g)
 unfolding over register_head register_bytes
 finished g {before} n room p =
     let bytes = rw n at p.bytes in

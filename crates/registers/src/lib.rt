@@ -4,7 +4,5 @@
 mod register;
 mod writing;
 
-pub use register::{
-    REGISTER_HEAD, is_register, register_length, row, row_count, row_key, snapshot,
-};
-pub use writing::{Draft, finish_register, put_row, start_register};
+pub use register::{REGISTER_HEAD, Register, is_register, register_length};
+pub use writing::Draft;

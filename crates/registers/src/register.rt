@@ -1,117 +1,128 @@
 // The register: a head of 8 bytes and rows of 28. Whether bytes are one, and what it holds.
-ghost use Rattle.std.specs.Prelude.{◌≡◌, true, ◌+◌, ◌*◌, ◌≤◌, ◌<◌, length};
-ghost use Rattle.rules.specs.Register.{max_rows, row_in, register_in, is_register};
+ghost use Rattle.std.specs.Prelude.{◌≡◌, true, ◌+◌, ◌≤◌, ◌<◌, length};
+ghost use Rattle.rules.specs.Register.{row_in, is_register};
 ghost use Rattle.registers.specs.RegisterReadings.{row_at};
 ghost use Rattle.registers.specs.RegisterForm.{place_of, in_order, length_from};
 
-use rules::{Extent, MAX_ROWS, Mark, Row};
-use words::{get32, get64};
+use rules::{MAX_ROWS, Mark, Refusal, Row};
+use words::Word;
 
 // How many bytes of a stream tell how long its register is.
 pub const REGISTER_HEAD: usize = 8;
 
+const ROW: usize = 28;
+
+// Where row i starts, and how long a register of i rows is.
+pub fn place_of(i: usize) -> usize
+    requires { place_of i ≤ usize.MAX }
+    ensures { result ≡ place_of i }
+{
+    REGISTER_HEAD + ROW * i
+}
+
 // How long the register is that starts with these bytes, from its head.
-pub fn register_length(head: &[u8]) -> Extent
+#[tactic(auto, using(std::proofs::lemmas::Bool::Decides::nat_tests), unfolding(crate::specs::RegisterForm::length_from, rules::specs::Lists::run_lists))]
+pub fn register_length(head: &[u8]) -> Option<usize>
     ensures { result ≡ length_from head.now }
 {
     if head.len() < REGISTER_HEAD {
-        return Extent::NoForm;
+        return None;
     }
-    let n = get32(head, 4) as usize;
-    if MAX_ROWS < n {
-        return Extent::NoForm;
-    }
-    Extent::Of(length_of(n))
+    let n = u32::get(head, 4) as usize;
+    (n <= MAX_ROWS).then(|| place_of(n))
 }
 
 // Whether row i is in order, behind a row of the key prev.
+#[tactic(auto, using(std::proofs::lemmas::Bool::Decides::nat_tests), unfolding(crate::specs::RegisterForm::in_order, rules::specs::Lists::run_lists))]
 fn in_order(b: &[u8], i: usize, prev: u32, snapshot: u32) -> bool
     requires { place_of (i + 1) ≤ length b.now }
     ensures { result ≡ in_order b.now i prev snapshot }
 {
-    let at = 8 + 28 * i;
-    let cen = get32(b, at + 12);
-    if get32(b, at) <= prev {
-        return false;
-    }
-    if snapshot < cen {
-        return false;
-    }
-    if cen < get32(b, at + 16) {
-        return false;
-    }
-    true
+    let at = place_of(i);
+    let cen = u32::get(b, at + 12);
+    prev < u32::get(b, at) && cen <= snapshot && u32::get(b, at + 16) <= cen
 }
 
 // Whether the bytes are a register: the length, and each row.
 pub fn is_register(b: &[u8]) -> bool
     ensures { result ≡ is_register b.now }
 {
-    let Extent::Of(len) = register_length(b) else {
-        return false;
-    };
-    if len != b.len() {
+    if register_length(b) != Some(b.len()) {
         return false;
     }
-    let snapshot = get32(b, 0);
-    let n = get32(b, 4) as usize;
-    let mut prev: u32 = 0;
-    let mut i: usize = 0;
-    while i < n {
+    let snapshot = u32::get(b, 0);
+    let mut prev = 0;
+    for i in 0..u32::get(b, 4) as usize {
         if !in_order(b, i, prev, snapshot) {
             return false;
         }
-        prev = get32(b, 8 + 28 * i);
-        i += 1;
+        prev = u32::get(b, place_of(i));
     }
     true
 }
 
-// What an examined register holds.
-pub fn snapshot(b: &[u8]) -> u32
-    requires { is_register b.now ≡ true }
-    ensures { result ≡ (register_in b.now).snapshot }
-{
-    get32(b, 0)
+// Bytes that are a register.
+#[derive(Clone, Copy)]
+pub struct Register<'a> {
+    pub bytes: &'a [u8],
+    ghost examined: { is_register bytes.now ≡ true },
 }
 
-pub fn row_count(b: &[u8]) -> usize
-    requires { is_register b.now ≡ true }
-    ensures { result ≡ length (register_in b.now).rows }
-{
-    get32(b, 4) as usize
+#[tactic(auto, using(crate::proofs::RegisterBy::readings))]
+impl<'a> Register<'a> {
+    ghost use Rattle.registers.specs.Views.{Examined, register_of};
+
+    // The bytes as a register, or refused: they are ill-formed.
+    pub fn examine(bytes: &'a [u8]) -> Result<Register<'a>, Refusal>
+        ensures { Examined bytes.now result }
+    {
+        if !is_register(bytes) {
+            return Err(Refusal::RegisterIllFormed);
+        }
+        Ok(Register { bytes })
+    }
+
+    pub fn snapshot(&self) -> u32
+        ensures { result ≡ (register_of self.now).snapshot }
+    {
+        u32::get(self.bytes, 0)
+    }
+
+    pub fn row_count(&self) -> usize
+        ensures { result ≡ length (register_of self.now).rows }
+    {
+        u32::get(self.bytes, 4) as usize
+    }
+
+    pub fn row_key(&self, i: usize) -> u32
+        requires { i < length (register_of self.now).rows }
+        ensures { result ≡ (row_at (register_of self.now) i).key }
+    {
+        u32::get(self.bytes, place_of(i))
+    }
+
+    // Row i, counted from 0.
+    pub fn row(&self, i: usize) -> Row
+        requires { i < length (register_of self.now).rows }
+        ensures { result ≡ row_at (register_of self.now) i }
+    {
+        row_from(self.bytes, place_of(i))
+    }
 }
 
-pub fn row_key(b: &[u8], i: usize) -> u32
-    requires { (is_register b.now ≡ true) × (i < length (register_in b.now).rows) }
-    ensures { result ≡ (row_at (register_in b.now) i).key }
-{
-    get32(b, 8 + 28 * i)
-}
-
-// The row whose bytes start at a place.
+// The row whose bytes start at a place in the register: words are read by places.
+#[tactic(auto, unfolding(rules::specs::Register::row_in))]
 fn row_from(b: &[u8], at: usize) -> Row
     requires { at + 28 ≤ length b.now }
     ensures { result ≡ row_in b.now at }
 {
     Row {
-        key: get32(b, at),
-        value: get64(b, at + 4),
-        mark: Mark::new(get32(b, at + 12), get32(b, at + 16), get64(b, at + 20)),
+        key: u32::get(b, at),
+        value: u64::get(b, at + 4),
+        mark: Mark::new(
+            u32::get(b, at + 12),
+            u32::get(b, at + 16),
+            u64::get(b, at + 20),
+        ),
     }
-}
-
-pub fn row(b: &[u8], i: usize) -> Row
-    requires { (is_register b.now ≡ true) × (i < length (register_in b.now).rows) }
-    ensures { result ≡ row_at (register_in b.now) i }
-{
-    row_from(b, 8 + 28 * i)
-}
-
-// The length of a register of n rows.
-pub fn length_of(n: usize) -> usize
-    requires { n ≤ max_rows }
-    ensures { result ≡ place_of n }
-{
-    8 + 28 * n
 }

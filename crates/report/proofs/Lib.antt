@@ -1,2 +1,2 @@
-pub mod PutLaws
+pub mod TextLaws
 pub mod LineLaws

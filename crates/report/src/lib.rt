@@ -5,5 +5,4 @@ mod line;
 mod report;
 mod text;
 
-pub use line::put_refused;
-pub use report::{REPORT_ROOM, write_report};
+pub use report::{REPORT_ROOM, put_refused, write_report};

@@ -1,49 +1,56 @@
-// Words and decimal numbers as text in lent bytes. Each writing hands back the place behind it.
-ghost use Rattle.std.specs.Prelude.{◌+◌, ◌≤◌, length};
-ghost use Rattle.report.specs.Report.{Put, digits, number_room, decimal, field, line_end};
+// A text that grows in lent bytes: a word, a number or the end of a line goes behind what is written.
+ghost use Rattle.std.specs.Prelude.{◌≡◌, ◌+◌, length};
+ghost use Rattle.report.specs.Report.{number_room, field, line_end};
 
-use words::copy;
+use itoa::Buffer;
 
-// No number of 64 bits has more digits.
-const NUMBER_ROOM: usize = 20;
+// The bytes that are lent, and the place behind what is written. Each writing asks for the room that it takes: a type that had room for a
+// whole report would ask more of a refusal's.
+#[derive(Drop)]
+pub struct Text<'a> {
+    pub out: &'a mut [u8],
+    pub at: usize,
+}
 
-// The digits of n, the last k at most: those before the last come first.
-fn put_digits(out: &mut [u8], at: usize, k: usize, n: u64) -> usize
-    requires { at + k ≤ length out.old }
-    ensures { (Put (digits k n) out.old at out.new result) × (result ≤ at + k) }
-{
-    if k == 0 {
-        return at;
+impl<'a> Text<'a> {
+    ghost use Rattle.report.specs.Text.{HasRoom, TakesAtMost, Writes};
+
+    pub fn new(out: &'a mut [u8], at: usize) -> Text<'a>
+        ensures lent { result.out.ghost_name ≡ out.entry.ghost_name }
+        ensures holds { result.out.now ≡ out.old }
+        ensures place { result.at ≡ at }
+    {
+        Text { out, at }
     }
-    if n < 10 {
-        out[at] = 48 + n as u8;
-        return at + 1;
+
+    #[tactic(auto, using(words::specs::WordLaws::part_stored))]
+    fn word(&mut self, word: &[u8])
+        requires { HasRoom self.old (length word.now) }
+        ensures writes { Writes word.now self.old self.new }
+        ensures room { TakesAtMost (length word.now) self.old self.new }
+    {
+        let end = self.at + word.len();
+        self.out[self.at..end].copy_from_slice(word);
+        self.at = end;
     }
-    let last = put_digits(out, at, k - 1, n / 10);
-    out[last] = 48 + (n % 10) as u8;
-    last + 1
-}
 
-pub fn put_decimal(out: &mut [u8], at: usize, n: u64) -> usize
-    requires { at + number_room ≤ length out.old }
-    ensures { (Put (decimal n) out.old at out.new result) × (result ≤ at + number_room) }
-{
-    put_digits(out, at, NUMBER_ROOM, n)
-}
+    // A word and the number behind it.
+    pub fn field(&mut self, word: &[u8], n: u64)
+        requires { HasRoom self.old (length word.now + number_room) }
+        ensures writes { Writes (field word.now n) self.old self.new }
+        ensures room { TakesAtMost (length word.now + number_room) self.old self.new }
+    {
+        let mut buffer = Buffer::new();
+        let number = buffer.format(n);
+        self.word(word);
+        self.word(number.as_bytes());
+    }
 
-// A word and the number behind it.
-pub fn put_field(out: &mut [u8], at: usize, text: &[u8], n: u64) -> usize
-    requires { at + length text.now + number_room ≤ length out.old }
-    ensures { (Put (field text.now n) out.old at out.new result) × (result ≤ at + length text.now + number_room) }
-{
-    copy(text, 0, text.len(), out, at);
-    put_decimal(out, at + text.len(), n)
-}
-
-pub fn end_line(out: &mut [u8], at: usize) -> usize
-    requires { at + 1 ≤ length out.old }
-    ensures { (Put line_end out.old at out.new result) × (result ≤ at + 1) }
-{
-    out[at] = 10;
-    at + 1
+    pub fn end_line(&mut self)
+        requires { HasRoom self.old 1 }
+        ensures writes { Writes line_end self.old self.new }
+        ensures room { TakesAtMost 1 self.old self.new }
+    {
+        self.word(b"\n");
+    }
 }

@@ -1,19 +1,37 @@
 -- The documents' number and values for every case of every answer.
-use Rattle.std.specs.Prelude.{ℕ}
+use Rattle.std.specs.Prelude.{ℕ, Option, None, Some, Result, Ok, Err}
 use Rattle.rules.specs.declared.answer.Refusal.{Refusal}
 use Rattle.rules.specs.declared.answer.Refusal.TheVariants.{RegisterIllFormed, SheetIllFormed, OfferIllFormed, WrongEpoch, WrongRoster, Spoiled, Incomplete, TooManyRows, BufferShort, CheckIllFormed, BadTag, KeyEntered, NinthRecord}
 use Rattle.rules.specs.declared.answer.Reason.{Reason}
 use Rattle.rules.specs.declared.answer.Reason.TheVariants.{Gone, OtherCsn, TooNew}
 use Rattle.rules.specs.declared.answer.Verdict.{Verdict}
 use Rattle.rules.specs.declared.answer.Verdict.TheVariants.{Commit, Lost, Unfit}
-use Rattle.rules.specs.declared.desk.Entered.{Entered}
-use Rattle.rules.specs.declared.desk.Entered.TheVariants as entered
-use Rattle.rules.specs.declared.answer.Answer.{Answer}
-use Rattle.rules.specs.declared.answer.Answer.TheVariants as answer
 use Rattle.rules.specs.declared.answer.Closed.{Closed}
-use Rattle.rules.specs.declared.answer.Closed.TheVariants as closed
-use Rattle.rules.specs.declared.answer.Checked.{Checked}
-use Rattle.rules.specs.declared.answer.Checked.TheVariants as checked
+use Rattle.rules.specs.declared.answer.Failure.{Failure}
+
+-- of an operation with one buffer: the length written at its start, or a refusal
+abbrev pub Answer : Type 0
+Answer = Result ℕ Refusal
+
+-- of closing: the lengths of the next register and of the verdicts, or a refusal
+abbrev pub ClosedAnswer : Type 0
+ClosedAnswer = Result Closed Refusal
+
+-- such an answer, by its two lengths
+abbrev pub lengths : ℕ → ℕ → ClosedAnswer
+lengths register verdicts = Ok (record { register = register; verdicts = verdicts })
+
+-- of the read check: the first failing entry, none where it passes, or a refusal
+abbrev pub Checked : Type 0
+Checked = Result (Option Failure) Refusal
+
+-- such an answer, by the entry that fails
+abbrev pub fails_with : ℕ → ℕ → Reason → Checked
+fails_with index key reason = Ok (Some (record { index = index; key = key; reason = reason }))
+
+-- of entering: the record is in the open set, or a refusal
+abbrev pub Entered : Type 0
+Entered = Result (Unit {0}) Refusal
 
 -- the table of 'What is refused', and document 02's refusals
 abbrev pub refusal_number : Refusal → ℕ
@@ -51,21 +69,21 @@ verdict_key (Unfit k) = k
 
 -- the number 0 and the length written, or the refusal's number and length 0
 abbrev pub answer_numbers : Answer → ℕ × ℕ
-answer_numbers (answer.Wrote n) = (0, n)
-answer_numbers (answer.Refused x) = (refusal_number x, 0)
+answer_numbers (Ok n) = (0, n)
+answer_numbers (Err x) = (refusal_number x, 0)
 
 -- the same with the register's and the verdicts' length
-abbrev pub closed_numbers : Closed → ℕ × ℕ × ℕ
-closed_numbers (closed.Wrote n m) = (0, n, m)
-closed_numbers (closed.Refused x) = (refusal_number x, 0, 0)
+abbrev pub closed_numbers : ClosedAnswer → ℕ × ℕ × ℕ
+closed_numbers (Ok c) = (0, c.register, c.verdicts)
+closed_numbers (Err x) = (refusal_number x, 0, 0)
 
 -- the refusal's number or 0, then index, key and reason, all three 0 at a pass or a refusal
 abbrev pub checked_numbers : Checked → ℕ × ℕ × ℕ × ℕ
-checked_numbers checked.Pass = (0, 0, 0, 0)
-checked_numbers (checked.Fails i k r) = (0, i, k, reason_number r)
-checked_numbers (checked.Refused x) = (refusal_number x, 0, 0, 0)
+checked_numbers (Ok None) = (0, 0, 0, 0)
+checked_numbers (Ok (Some f)) = (0, f.index, f.key, reason_number f.reason)
+checked_numbers (Err x) = (refusal_number x, 0, 0, 0)
 
 -- of entering: 0, or the refusal's number
 abbrev pub entered_number : Entered → ℕ
-entered_number entered.Added = 0
-entered_number (entered.Refused x) = refusal_number x
+entered_number (Ok done) = 0
+entered_number (Err x) = refusal_number x

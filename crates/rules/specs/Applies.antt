@@ -1,8 +1,7 @@
 -- Document 01, the table of 'What is refused', and document 02's refusals, row by row: when each refusal applies to what an operation is
 -- asked, whatever else applies. What a row says of a sheet, a register or an open set is meant of the one that the bytes stand for, and of a
 -- key of the one that the tag has; where they are none, 2, 1, 3 or 11 applies.
-use Rattle.std.specs.Prelude.{ℕ, ◌+◌, ◌<◌, ◌≡◌, Bool, true, false, not, List, length, get_or, leb, ltb, eqb}
-use Rattle.std.proofs.Math.Option.{Option, none, some}
+use Rattle.std.specs.Prelude.{ℕ, ◌+◌, ◌<◌, ◌≡◌, Bool, true, false, not, List, length, get_or, leb, ltb, eqb, Option, None, Some}
 use Rattle.words.specs.Words.{Bytes}
 use Rattle.rules.specs.declared.row.Read.{Read}
 use Rattle.rules.specs.declared.desk.OpenSet.{OpenSet}
@@ -155,8 +154,8 @@ buffer_short (to_tag key room) = ltb room tag_room
 
 -- of the entries: a key 0, or over 32; two lists of unequal length give none
 unfoldable pub bad_entries : Option (List Read) → Bool
-bad_entries none = true
-bad_entries (some es) = any (λ e. eqb e.key 0) es or ltb max_reads (length es)
+bad_entries None = true
+bad_entries (Some es) = any (λ e. eqb e.key 0) es or ltb max_reads (length es)
 
 -- 10: read check: mode not 1 to 3, a key 0, over 32 entries, or (in every mode) lsn above the snapshot
 unfoldable pub bad_read_check : Asked → Bool

@@ -1,7 +1,6 @@
 -- Document 01, 'Closing', and document 02, L1: what a row becomes, and the next rows, from any list of committed sets, whatever chose
 -- them; then the next register, from those that closing commits.
-use Rattle.std.specs.Prelude.{ℕ, ◌+◌, Bool, false, List, [], ◌∷◌, map, ltb, eqb, if◌then◌else◌}
-use Rattle.std.proofs.Math.Option.{Option, none, some}
+use Rattle.std.specs.Prelude.{ℕ, ◌+◌, Bool, false, List, [], ◌∷◌, map, ltb, eqb, if◌then◌else◌, Option, None, Some}
 use Rattle.rules.specs.declared.mark.Mark.{Mark}
 use Rattle.rules.specs.declared.row.Row.{Row}
 use Rattle.rules.specs.declared.row.Record.{Record}
@@ -21,13 +20,13 @@ applied_to rs k = first (λ r. eqb r.key k) rs
 
 -- the value that a row takes: that of the applied record, if there is one
 unfoldable pub value_by : Option Record → ℕ → ℕ
-value_by none old = old
-value_by (some r) old = r.value
+value_by None old = old
+value_by (Some r) old = r.value
 
 -- the applied record, if there is one, is a delete
 unfoldable pub is_deleted : Option Record → Bool
-is_deleted none = false
-is_deleted (some r) = eqb r.kind delete
+is_deleted None = false
+is_deleted (Some r) = eqb r.kind delete
 
 -- the committed set that names a key
 unfoldable pub committed_on : List WriteSet → ℕ → Option WriteSet
@@ -35,8 +34,8 @@ committed_on c k = first (λ w. names w k) c
 
 -- the mark that a row takes: that of the set, if there is one
 unfoldable pub mark_by : Sheet → Mark → Option WriteSet → Mark
-mark_by s old none = old
-mark_by s old (some w) = mark_in s w
+mark_by s old None = old
+mark_by s old (Some w) = mark_in s w
 
 -- a row among rows in the order of their keys
 unfoldable pub put_row : Row → List Row → List Row

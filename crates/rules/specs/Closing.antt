@@ -1,6 +1,5 @@
 -- Document 01, 'Closing': which sets are fit, who wins each key, the verdicts, and who commits.
-use Rattle.std.specs.Prelude.{ℕ, Bool, true, false, not, List, map, get_or, leb, eqb, if◌then◌else◌}
-use Rattle.std.proofs.Math.Option.{Option, none, some}
+use Rattle.std.specs.Prelude.{ℕ, Bool, true, false, not, List, map, get_or, leb, eqb, if◌then◌else◌, Option, None, Some}
 use Rattle.rules.specs.declared.mark.Mark.{Mark}
 use Rattle.rules.specs.declared.row.Record.{Record}
 use Rattle.rules.specs.declared.answer.Verdict.{Verdict}
@@ -56,8 +55,8 @@ winner g s k = first (foremost s (claimants g s k)) (claimants g s k)
 
 -- the winner, if there is one, is w: csns of a sheet ascend, so the csn tells the set
 unfoldable pub is_set : WriteSet → Option WriteSet → Bool
-is_set w none = false
-is_set w (some v) = eqb v.csn w.csn
+is_set w None = false
+is_set w (Some v) = eqb v.csn w.csn
 
 -- w is the winner of a key
 unfoldable pub wins : Register → Sheet → WriteSet → ℕ → Bool
@@ -73,9 +72,9 @@ first_lost g s w = first (λ r. not (wins g s w r.key)) w.records
 
 -- unfit where a record is wrong, lost where a key is, else committed
 unfoldable pub judged : Option Record → Option Record → Verdict
-judged (some r) l = Unfit r.key
-judged none (some r) = Lost r.key
-judged none none = Commit
+judged (Some r) l = Unfit r.key
+judged None (Some r) = Lost r.key
+judged None None = Commit
 
 -- THE VERDICT ON A SET
 unfoldable pub verdict : Register → Sheet → WriteSet → Verdict

@@ -1,6 +1,5 @@
 -- The words that the rules use of tests and lists: and, or; all, any, those that pass, the first that passes.
-use Rattle.std.specs.Prelude.{ℕ, zero, suc, Bool, true, false, List, [], ◌∷◌, ◌++◌, length, ltb, eqb, if◌then◌else◌}
-use Rattle.std.proofs.Math.Option.{Option, none, some}
+use Rattle.std.specs.Prelude.{ℕ, zero, suc, Bool, true, false, List, [], ◌∷◌, ◌++◌, length, ltb, eqb, if◌then◌else◌, Option, None, Some}
 
 -- both
 infixr 35 ◌and◌
@@ -32,8 +31,8 @@ module _ {A : Type 0} where
 
   -- the first that passes
   unfoldable pub first : (A → Bool) → List A → Option A
-  first p [] = none
-  first p (x ∷ xs) = if p x then some x else first p xs
+  first p [] = None
+  first p (x ∷ xs) = if p x then Some x else first p xs
 
   -- how many pass
   unfoldable pub count : (A → Bool) → List A → ℕ

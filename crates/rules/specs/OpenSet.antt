@@ -1,6 +1,5 @@
 -- Document 02, L2: the visit desk's open set, 0 to 8 sound records in key order, filled where it stands; its struct, with one encoding.
-use Rattle.std.specs.Prelude.{ℕ, ◌-◌, ◌*◌, Bool, List, [], ◌∷◌, ◌++◌, map, length, replicate, leb, ltb, eqb, if◌then◌else◌}
-use Rattle.std.proofs.Math.Option.{Option, none, some}
+use Rattle.std.specs.Prelude.{ℕ, ◌-◌, ◌*◌, Bool, List, [], ◌∷◌, ◌++◌, map, length, replicate, leb, ltb, eqb, if◌then◌else◌, Option, None, Some}
 use Rattle.words.specs.Words.{Bytes}
 use Rattle.rules.specs.declared.row.Record.{Record}
 use Rattle.rules.specs.declared.desk.OpenSet.{OpenSet}
@@ -33,7 +32,7 @@ is_open_set o = sound_open (open_records o) and same_open (open_set_of (open_rec
 
 -- the records of an open set, or none exactly if it is ill-formed
 unfoldable pub read_open : OpenSet → Option (List Record)
-read_open o = if is_open_set o then some (open_records o) else none
+read_open o = if is_open_set o then Some (open_records o) else None
 
 -- one of the records has the key
 unfoldable pub has_key : ℕ → List Record → Bool

@@ -2,11 +2,7 @@
 use Rattle.std.specs.Prelude.{ℕ, ◌≡◌, ◌++◌, length, drop}
 use Rattle.words.specs.Words.{Bytes}
 use Rattle.rules.specs.declared.desk.OpenSet.{OpenSet}
-use Rattle.rules.specs.declared.desk.Entered.{Entered}
-use Rattle.rules.specs.declared.answer.Answer.{Answer}
-use Rattle.rules.specs.declared.answer.Closed.{Closed}
-use Rattle.rules.specs.declared.answer.Checked.{Checked}
-use Rattle.rules.specs.Answers.{answer_numbers, closed_numbers, checked_numbers, entered_number, reason_number}
+use Rattle.rules.specs.Answers.{Answer, ClosedAnswer, Checked, Entered, answer_numbers, closed_numbers, checked_numbers, entered_number, reason_number}
 use Rattle.rules.specs.OpenSet.{empty_set}
 use Rattle.rules.specs.ReadCheck.{Finding, passes, fails}
 use Rattle.rules.specs.Refused.{Outcome, refused, done, Closing}
@@ -46,7 +42,7 @@ left_verdicts (refused n) old = old
 left_verdicts (done c) old = over old c.verdicts
 
 -- of closing, with a buffer for the next register and one for the verdicts
-pub record ClosePromise (o : Outcome Closing) (before-next before-verdicts : Bytes) (answer : Closed) (after_next after-verdicts : Bytes) : Type 0 where
+pub record ClosePromise (o : Outcome Closing) (before-next before-verdicts : Bytes) (answer : ClosedAnswer) (after_next after-verdicts : Bytes) : Type 0 where
   pub answered : closed_numbers answer ≡ told_closing o
   pub next : after_next ≡ left_register o before-next
   pub verdicts : after-verdicts ≡ left_verdicts o before-verdicts

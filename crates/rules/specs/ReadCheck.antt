@@ -1,6 +1,5 @@
 -- Document 01, 'Read check': whether what a depot read still stands.
-use Rattle.std.specs.Prelude.{ℕ, suc, ◌+◌, List, [], ◌∷◌, ltb, eqb, if◌then◌else◌}
-use Rattle.std.proofs.Math.Option.{Option, none, some}
+use Rattle.std.specs.Prelude.{ℕ, suc, ◌+◌, List, [], ◌∷◌, ltb, eqb, if◌then◌else◌, Option, None, Some}
 use Rattle.rules.specs.declared.row.Row.{Row}
 use Rattle.rules.specs.declared.row.Read.{Read}
 use Rattle.rules.specs.declared.answer.Reason.{Reason}
@@ -29,23 +28,23 @@ pub data Finding : Type 0 where
 unfoldable pub fails_row : ℕ → ℕ → Read → Row → Option Reason
 fails_row mode lsn e r =
     if eqb mode repeatable_read
-    then if eqb r.mark.csn e.csn then none else some OtherCsn
-    else if ltb (lsn + 1) r.mark.cen then some TooNew else none
+    then if eqb r.mark.csn e.csn then None else Some OtherCsn
+    else if ltb (lsn + 1) r.mark.cen then Some TooNew else None
 
 -- a row that is gone fails, one that is there by its mark
 unfoldable pub fails_found : ℕ → ℕ → Read → Option Row → Option Reason
-fails_found mode lsn e none = some Gone
-fails_found mode lsn e (some r) = fails_row mode lsn e r
+fails_found mode lsn e None = Some Gone
+fails_found mode lsn e (Some r) = fails_row mode lsn e r
 
 -- why an entry fails, if it does; Read Committed always passes
 unfoldable pub failing : Register → ℕ → ℕ → Read → Option Reason
 failing g mode lsn e =
-    if eqb mode read_committed then none else fails_found mode lsn e (first (λ r. eqb r.key e.key) g.rows)
+    if eqb mode read_committed then None else fails_found mode lsn e (first (λ r. eqb r.key e.key) g.rows)
 
 -- the entry at index i with key k fails for the reason, or else the rest tells
 unfoldable pub finding_or : Option Reason → ℕ → ℕ → Finding → Finding
-finding_or none i k rest = rest
-finding_or (some r) i k rest = fails i k r
+finding_or None i k rest = rest
+finding_or (Some r) i k rest = fails i k r
 
 -- the first failing entry, the entries counted from i
 unfoldable pub check_from : Register → ℕ → ℕ → ℕ → List Read → Finding
@@ -54,14 +53,14 @@ check_from g mode lsn i (e ∷ es) = finding_or (failing g mode lsn e) i e.key (
 
 -- one entry more in front, if the others are entries
 unfoldable pub with_read : ℕ → ℕ → Option (List Read) → Option (List Read)
-with_read k c none = none
-with_read k c (some es) = some (record { key = k; csn = c } ∷ es)
+with_read k c None = None
+with_read k c (Some es) = Some (record { key = k; csn = c } ∷ es)
 
 -- the entries that two lists of equal length give, or none
 unfoldable pub reads_of : List ℕ → List ℕ → Option (List Read)
-reads_of [] [] = some []
-reads_of [] (c ∷ cs) = none
-reads_of (k ∷ ks) [] = none
+reads_of [] [] = Some []
+reads_of [] (c ∷ cs) = None
+reads_of (k ∷ ks) [] = None
 reads_of (k ∷ ks) (c ∷ cs) = with_read k c (reads_of ks cs)
 
 -- opens all of these, for a proof by computation

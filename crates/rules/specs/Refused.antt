@@ -1,7 +1,6 @@
 -- Document 01, 'What is refused', and document 02's refusals: what each operation does with the bytes and numbers it is given and the
 -- lengths of the buffers it is lent. The refusals of each are one chain, in the documents' order.
-use Rattle.std.specs.Prelude.{ℕ, ◌+◌, Bool, not, List, ◌∷◌, length, ltb, leb, eqb, if◌then◌else◌}
-use Rattle.std.proofs.Math.Option.{Option, none, some}
+use Rattle.std.specs.Prelude.{ℕ, ◌+◌, Bool, not, List, ◌∷◌, length, ltb, leb, eqb, if◌then◌else◌, Option, None, Some}
 use Rattle.words.specs.Words.{Bytes, le}
 use Rattle.rules.specs.declared.row.Record.{Record}
 use Rattle.rules.specs.declared.row.Read.{Read}
@@ -50,9 +49,9 @@ open_outcome epoch roster room =
 
 -- the offered set, or none if it is ill-formed
 unfoldable pub set_with : ℕ → ℕ → ℕ → Option (List Record) → Option Offer
-set_with epoch sen csn none = none
-set_with epoch sen csn (some rs) =
-    if leb 1 epoch and leb sen epoch then some (a_set (record { csn = csn; sen = sen; records = rs })) else none
+set_with epoch sen csn None = None
+set_with epoch sen csn (Some rs) =
+    if leb 1 epoch and leb sen epoch then Some (a_set (record { csn = csn; sen = sen; records = rs })) else None
 
 -- the same from its record bytes
 unfoldable pub offered_set : ℕ → ℕ → ℕ → Bytes → Option Offer
@@ -61,13 +60,13 @@ offered_set epoch sen csn b = set_with epoch sen csn (read_records b)
 -- the offered notice, or none if it is ill-formed
 unfoldable pub offered_notice : ℕ → ℕ → ℕ → Option Offer
 offered_notice epoch master n =
-    if leb 1 epoch and leb master 15 and leb n max_sets then some (a_notice (record { master = master; number = n })) else none
+    if leb 1 epoch and leb master 15 and leb n max_sets then Some (a_notice (record { master = master; number = n })) else None
 
 -- an offer that a master makes to a sheet in an epoch
 unfoldable pub offer_to : Option Sheet → Option Offer → ℕ → ℕ → ℕ → Outcome Bytes
-offer_to none o epoch master room = refused 2
-offer_to (some s) none epoch master room = refused 3
-offer_to (some s) (some o) epoch master room =
+offer_to None o epoch master room = refused 2
+offer_to (Some s) None epoch master room = refused 3
+offer_to (Some s) (Some o) epoch master room =
     if not (eqb epoch s.epoch) then refused 4 else
     if not (in_roster s.roster master) then refused 5 else
     if ltb room sheet_room then refused 9 else
@@ -83,9 +82,9 @@ notice_outcome sheet epoch master n room = offer_to (read_sheet sheet) (offered_
 
 -- joining of two sheets, each of them none if ill-formed
 unfoldable pub join_sheets : Option Sheet → Option Sheet → ℕ → Outcome Bytes
-join_sheets none b room = refused 2
-join_sheets (some a) none room = refused 2
-join_sheets (some a) (some b) room =
+join_sheets None b room = refused 2
+join_sheets (Some a) None room = refused 2
+join_sheets (Some a) (Some b) room =
     if not (eqb a.epoch b.epoch) then refused 4 else
     if not (eqb a.roster b.roster) then refused 5 else
     if ltb room sheet_room then refused 9 else
@@ -110,9 +109,9 @@ closing g s = record { register = register_bytes (next g s); verdicts = flat ver
 
 -- closing of a register and a sheet, each of them none if ill-formed
 unfoldable pub close_sheet : Option Register → Option Sheet → ℕ → ℕ → Outcome Closing
-close_sheet none s next_room room = refused 1
-close_sheet (some g) none next_room room = refused 2
-close_sheet (some g) (some s) next_room room =
+close_sheet None s next_room room = refused 1
+close_sheet (Some g) None next_room room = refused 2
+close_sheet (Some g) (Some s) next_room room =
     if not (eqb s.epoch (g.snapshot + 1)) then refused 4 else
     if s.spoiled then refused 6 else
     if not (complete s) then refused 7 else
@@ -131,13 +130,13 @@ bad_check g mode lsn es =
 
 -- the read check of a register and entries, each of them none if ill-formed
 unfoldable pub check_reads : Option Register → ℕ → ℕ → Option (List Read) → Outcome Finding
-check_reads none mode lsn es = refused 1
-check_reads (some g) mode lsn none = refused 10
-check_reads (some g) mode lsn (some es) = if bad_check g mode lsn es then refused 10 else done (check_from g mode lsn 0 es)
+check_reads None mode lsn es = refused 1
+check_reads (Some g) mode lsn None = refused 10
+check_reads (Some g) mode lsn (Some es) = if bad_check g mode lsn es then refused 10 else done (check_from g mode lsn 0 es)
 
 -- READ CHECK, over a list of entries
 unfoldable pub reads_outcome : Bytes → ℕ → ℕ → List Read → Outcome Finding
-reads_outcome register mode lsn es = check_reads (read_register register) mode lsn (some es)
+reads_outcome register mode lsn es = check_reads (read_register register) mode lsn (Some es)
 
 -- READ CHECK, over a list of keys and a list of csns; of unequal length they are refused
 unfoldable pub check_outcome : Bytes → ℕ → ℕ → List ℕ → List ℕ → Outcome Finding

@@ -1,21 +1,13 @@
 -- A promise settles answer and every lent byte: two outcomes that it allows are equal.
-use Rattle.std.specs.Prelude.{ℕ, ◌≡◌, refl, [], ◌∷◌, get_or}
-use Rattle.std.proofs.Common.{sym, ◌∙◌, ap, ap₂, arith}
+use Rattle.std.specs.Prelude.{ℕ, ◌≡◌, refl, [], ◌∷◌, get_or, None, Some, Ok, Err}
+use Rattle.std.proofs.Common.{sym, ◌∙◌, ap, arith}
 use Rattle.words.specs.Words.{Bytes}
 use Rattle.rules.specs.declared.answer.Refusal.{Refusal}
 use Rattle.rules.specs.declared.answer.Refusal.TheVariants.{RegisterIllFormed, SheetIllFormed, OfferIllFormed, WrongEpoch, WrongRoster, Spoiled, Incomplete, TooManyRows, BufferShort, CheckIllFormed, BadTag, KeyEntered, NinthRecord}
 use Rattle.rules.specs.declared.answer.Reason.{Reason}
 use Rattle.rules.specs.declared.answer.Reason.TheVariants.{Gone, OtherCsn, TooNew}
 use Rattle.rules.specs.declared.desk.OpenSet.{OpenSet}
-use Rattle.rules.specs.declared.desk.Entered.{Entered}
-use Rattle.rules.specs.declared.desk.Entered.TheVariants as entered
-use Rattle.rules.specs.declared.answer.Answer.{Answer}
-use Rattle.rules.specs.declared.answer.Answer.TheVariants as answer
-use Rattle.rules.specs.declared.answer.Closed.{Closed}
-use Rattle.rules.specs.declared.answer.Closed.TheVariants as closed
-use Rattle.rules.specs.declared.answer.Checked.{Checked}
-use Rattle.rules.specs.declared.answer.Checked.TheVariants as checked
-use Rattle.rules.specs.Answers.{refusal_number, reason_number, answer_numbers, closed_numbers, checked_numbers, entered_number}
+use Rattle.rules.specs.Answers.{Answer, ClosedAnswer, Checked, Entered, refusal_number, reason_number, answer_numbers, closed_numbers, checked_numbers, entered_number}
 use Rattle.rules.specs.Refused.{Outcome, Closing}
 use Rattle.rules.specs.ReadCheck.{Finding}
 use Rattle.rules.specs.Promises.{Promise, ClosePromise, CheckPromise, EnterPromise, OfferPromise}
@@ -81,39 +73,39 @@ reason_some OtherCsn e = omega arith
 reason_some TooNew e = omega arith
 
 same_answer : (a b : Answer) → answer_numbers a ≡ answer_numbers b → a ≡ b
-same_answer (answer.Wrote n) (answer.Wrote m) e = ap answer.Wrote (ap (λ (x : ℕ × ℕ). x.1) e)
-same_answer (answer.Wrote n) (answer.Refused y) e = absurd (refusal_some y (ap (λ (x : ℕ × ℕ). x.0) e))
-same_answer (answer.Refused x) (answer.Wrote m) e = absurd (refusal_some x (sym (ap (λ (x : ℕ × ℕ). x.0) e)))
-same_answer (answer.Refused x) (answer.Refused y) e = ap answer.Refused (same_refusal x y (ap (λ (x : ℕ × ℕ). x.0) e))
+same_answer (Ok n) (Ok m) e = ap Ok (ap (λ (x : ℕ × ℕ). x.1) e)
+same_answer (Ok n) (Err y) e = absurd (refusal_some y (ap (λ (x : ℕ × ℕ). x.0) e))
+same_answer (Err x) (Ok m) e = absurd (refusal_some x (sym (ap (λ (x : ℕ × ℕ). x.0) e)))
+same_answer (Err x) (Err y) e = ap Err (same_refusal x y (ap (λ (x : ℕ × ℕ). x.0) e))
 
-same_closed : (a b : Closed) → closed_numbers a ≡ closed_numbers b → a ≡ b
-same_closed (closed.Wrote n m) (closed.Wrote k l) e = ap₂ closed.Wrote (ap (λ (x : ℕ × ℕ × ℕ). x.1) e) (ap (λ (x : ℕ × ℕ × ℕ). x.2) e)
-same_closed (closed.Wrote n m) (closed.Refused y) e = absurd (refusal_some y (ap (λ (x : ℕ × ℕ × ℕ). x.0) e))
-same_closed (closed.Refused x) (closed.Wrote k l) e = absurd (refusal_some x (sym (ap (λ (x : ℕ × ℕ × ℕ). x.0) e)))
-same_closed (closed.Refused x) (closed.Refused y) e = ap closed.Refused (same_refusal x y (ap (λ (x : ℕ × ℕ × ℕ). x.0) e))
+same_closed : (a b : ClosedAnswer) → closed_numbers a ≡ closed_numbers b → a ≡ b
+same_closed (Ok c) (Ok d) e = λ t. Ok (record { register = ap (λ (x : ℕ × ℕ × ℕ). x.1) e t; verdicts = ap (λ (x : ℕ × ℕ × ℕ). x.2) e t })
+same_closed (Ok c) (Err y) e = absurd (refusal_some y (ap (λ (x : ℕ × ℕ × ℕ). x.0) e))
+same_closed (Err x) (Ok d) e = absurd (refusal_some x (sym (ap (λ (x : ℕ × ℕ × ℕ). x.0) e)))
+same_closed (Err x) (Err y) e = ap Err (same_refusal x y (ap (λ (x : ℕ × ℕ × ℕ). x.0) e))
 
 -- the numbers of the read check's answer
 abbrev pub Four : Type 0
 Four = ℕ × ℕ × ℕ × ℕ
 
 same_checked : (a b : Checked) → checked_numbers a ≡ checked_numbers b → a ≡ b
-same_checked checked.Pass checked.Pass e = refl
-same_checked checked.Pass (checked.Fails i k r) e = absurd (reason_some r (ap (λ (x : Four). x.3) e))
-same_checked checked.Pass (checked.Refused y) e = absurd (refusal_some y (ap (λ (x : Four). x.0) e))
-same_checked (checked.Fails i k r) checked.Pass e = absurd (reason_some r (sym (ap (λ (x : Four). x.3) e)))
-same_checked (checked.Fails i k r) (checked.Fails j l q) e =
-    let p = same_reason r q (ap (λ (x : Four). x.3) e) in
-    λ t. checked.Fails (ap (λ (x : Four). x.1) e t) (ap (λ (x : Four). x.2) e t) (p t)
-same_checked (checked.Fails i k r) (checked.Refused y) e = absurd (refusal_some y (ap (λ (x : Four). x.0) e))
-same_checked (checked.Refused x) checked.Pass e = absurd (refusal_some x (sym (ap (λ (x : Four). x.0) e)))
-same_checked (checked.Refused x) (checked.Fails j l q) e = absurd (refusal_some x (sym (ap (λ (x : Four). x.0) e)))
-same_checked (checked.Refused x) (checked.Refused y) e = ap checked.Refused (same_refusal x y (ap (λ (x : Four). x.0) e))
+same_checked (Ok None) (Ok None) e = refl
+same_checked (Ok None) (Ok (Some f)) e = absurd (reason_some f.reason (ap (λ (x : Four). x.3) e))
+same_checked (Ok None) (Err y) e = absurd (refusal_some y (ap (λ (x : Four). x.0) e))
+same_checked (Ok (Some f)) (Ok None) e = absurd (reason_some f.reason (sym (ap (λ (x : Four). x.3) e)))
+same_checked (Ok (Some f)) (Ok (Some g)) e =
+    let p = same_reason f.reason g.reason (ap (λ (x : Four). x.3) e) in
+    λ t. Ok (Some (record { index = ap (λ (x : Four). x.1) e t; key = ap (λ (x : Four). x.2) e t; reason = p t }))
+same_checked (Ok (Some f)) (Err y) e = absurd (refusal_some y (ap (λ (x : Four). x.0) e))
+same_checked (Err x) (Ok None) e = absurd (refusal_some x (sym (ap (λ (x : Four). x.0) e)))
+same_checked (Err x) (Ok (Some g)) e = absurd (refusal_some x (sym (ap (λ (x : Four). x.0) e)))
+same_checked (Err x) (Err y) e = ap Err (same_refusal x y (ap (λ (x : Four). x.0) e))
 
 same_entered : (a b : Entered) → entered_number a ≡ entered_number b → a ≡ b
-same_entered entered.Added entered.Added e = refl
-same_entered entered.Added (entered.Refused y) e = absurd (refusal_some y e)
-same_entered (entered.Refused x) entered.Added e = absurd (refusal_some x (sym e))
-same_entered (entered.Refused x) (entered.Refused y) e = ap entered.Refused (same_refusal x y e)
+same_entered (Ok u) (Ok v) e = refl
+same_entered (Ok u) (Err y) e = absurd (refusal_some y e)
+same_entered (Err x) (Ok v) e = absurd (refusal_some x (sym e))
+same_entered (Err x) (Err y) e = ap Err (same_refusal x y e)
 
 -- ---- settled
 
@@ -122,7 +114,7 @@ pub settled : (o : Outcome Bytes) (before : Bytes) {a b : Answer} {after after' 
 settled o before {a} {b} p q = (same_answer a b (p.answered ∙ sym q.answered), p.buffer ∙ sym q.buffer)
 
 -- THE SAME OF CLOSING
-pub settled_closing : (o : Outcome Closing) (next verdicts : Bytes) {a b : Closed} {n n' v v' : Bytes}
+pub settled_closing : (o : Outcome Closing) (next verdicts : Bytes) {a b : ClosedAnswer} {n n' v v' : Bytes}
     → ClosePromise o next verdicts a n v → ClosePromise o next verdicts b n' v' → (a ≡ b) × (n ≡ n') × (v ≡ v')
 settled_closing o next verdicts {a} {b} p q =
     (same_closed a b (p.answered ∙ sym q.answered), p.next ∙ sym q.next, p.verdicts ∙ sym q.verdicts)

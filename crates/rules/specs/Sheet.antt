@@ -1,8 +1,10 @@
 -- Document 01, 'Sheet': its contents, when they are sound, and its bytes.
-use Rattle.std.specs.Prelude.{ℕ, zero, suc, ◌+◌, ◌*◌, ◌/◌, ◌%◌, ◌^◌, Bool, not, List, [], ◌∷◌, ◌++◌, map, length, get_or, leb, eqb, if◌then◌else◌}
-use Rattle.std.proofs.Math.Option.{Option}
+use Rattle.std.specs.Prelude.{ℕ, zero, suc, ◌+◌, ◌*◌, ◌/◌, ◌%◌, ◌^◌, Bool, not, List, [], ◌∷◌, ◌++◌, map, length, get_or, leb, eqb, if◌then◌else◌, Option, Result, Ok, Err, ◌≡◌, false}
 use Rattle.words.specs.Words.{Bytes, le, word, part}
 use Rattle.rules.specs.declared.row.Record.{Record}
+use Rattle.rules.specs.declared.row.UnknownKind.{UnknownKind}
+use Rattle.rules.specs.declared.row.Kind.{Kind}
+use Rattle.rules.specs.declared.row.Kind.TheVariants.{Change, Insert, Delete}
 use Rattle.rules.specs.Lists.{up_from, ◌and◌, ◌or◌, all, flat, count, ascend_from, ascend}
 use Rattle.rules.specs.Numbers.{run_numbers, fits, master_of}
 use Rattle.rules.specs.Forms.{run_forms, well_formed, read}
@@ -45,6 +47,12 @@ insert = 2
 abbrev pub delete : ℕ
 delete = 3
 
+-- the byte of a kind
+abbrev pub kind_number : Kind → ℕ
+kind_number Change = change
+kind_number Insert = insert
+kind_number Delete = delete
+
 -- masters 0 to 15
 abbrev pub masters : List ℕ
 masters = up_from 0 16
@@ -72,6 +80,11 @@ allows notice n = eqb notice no_notice or leb n notice
 -- which kinds there are
 unfoldable pub is_kind : ℕ → Bool
 is_kind k = leb change k and leb k delete
+
+-- of a byte: the kind that it stands for, or that it is none's
+abbrev pub IsKindOf : ℕ → Result Kind UnknownKind → Type 0
+IsKindOf b (Ok kind) = kind_number kind ≡ b
+IsKindOf b (Err e) = is_kind b ≡ false
 
 -- a kind's values: 64 bits, and 0 at a delete
 unfoldable pub sound_value : ℕ → ℕ → Bool

@@ -1,7 +1,6 @@
 -- Document 02, L2: a station's tag is eleven ASCII digits, ten for the key and one check digit by the ten by ten table of H. M. Damm,
 -- 'Total anti-symmetrische Quasigruppen', 2004.
-use Rattle.std.specs.Prelude.{ℕ, zero, suc, ◌+◌, ◌-◌, ◌*◌, ◌/◌, ◌%◌, ◌^◌, Bool, List, [], ◌∷◌, ◌++◌, length, get_or, set, take, leb, eqb, if◌then◌else◌}
-use Rattle.std.proofs.Math.Option.{Option, none, some}
+use Rattle.std.specs.Prelude.{ℕ, zero, suc, ◌+◌, ◌-◌, ◌*◌, ◌/◌, ◌%◌, ◌^◌, Bool, List, [], ◌∷◌, ◌++◌, length, get_or, set, take, leb, eqb, if◌then◌else◌, Option, None, Some}
 use Rattle.words.specs.Words.{Bytes}
 use Rattle.rules.specs.Lists.{◌and◌, all, run_lists}
 use Rattle.rules.specs.Numbers.{fits, run_numbers}
@@ -65,7 +64,7 @@ is_tag t = right_tag t and is_key (key_in t)
 
 -- the key of a tag, or none exactly if it is no station's tag
 unfoldable pub key_of_tag : Bytes → Option ℕ
-key_of_tag t = if is_tag t then some (key_in t) else none
+key_of_tag t = if is_tag t then Some (key_in t) else None
 
 -- the n low decimal digits of k, the highest first
 unfoldable pub digits : ℕ → ℕ → Bytes

@@ -2,56 +2,61 @@
 ghost use Rattle.std.specs.Prelude.{◌≡◌};
 ghost use Rattle.rules.specs.Answers.{refusal_number, reason_number, verdict_code, verdict_key};
 
-// A variant for each row of 'What is refused', and for each refusal of document 02.
-#[derive(Clone, Copy)]
+// A variant for each row of 'What is refused', and for each refusal of document 02, by its number.
+#[derive(Clone, Copy, Debug, PartialEq, Eq)]
 pub enum Refusal {
-    RegisterIllFormed,
-    SheetIllFormed,
-    OfferIllFormed,
-    WrongEpoch,
-    WrongRoster,
-    Spoiled,
-    Incomplete,
-    TooManyRows,
-    BufferShort,
-    CheckIllFormed,
-    BadTag,
-    KeyEntered,
-    NinthRecord,
+    RegisterIllFormed = 1,
+    SheetIllFormed = 2,
+    OfferIllFormed = 3,
+    WrongEpoch = 4,
+    WrongRoster = 5,
+    Spoiled = 6,
+    Incomplete = 7,
+    TooManyRows = 8,
+    BufferShort = 9,
+    CheckIllFormed = 10,
+    BadTag = 11,
+    KeyEntered = 12,
+    NinthRecord = 13,
 }
 
-// Of an operation with one buffer: the length written at its start, or a refusal.
-#[derive(Clone, Copy)]
-pub enum Answer {
-    Wrote(usize),
-    Refused(Refusal),
+impl From<Refusal> for u32 {
+    ghost from_gives = { λ x n. n ≡ refusal_number x };
+
+    fn from(x: Refusal) -> u32 {
+        x as u32
+    }
 }
 
-// Of closing: the lengths of the next register and of the verdicts.
+// Of a closing that is not refused: the lengths of the next register and of the verdicts.
 #[derive(Clone, Copy)]
-pub enum Closed {
-    Wrote { register: usize, verdicts: usize },
-    Refused(Refusal),
+pub struct Closed {
+    pub register: usize,
+    pub verdicts: usize,
 }
 
 // Why the read check fails an entry.
-#[derive(Clone, Copy)]
+#[derive(Clone, Copy, Debug, PartialEq, Eq)]
 pub enum Reason {
-    Gone,
-    OtherCsn,
-    TooNew,
+    Gone = 1,
+    OtherCsn = 2,
+    TooNew = 3,
 }
 
-// Of the read check: the first failing entry's index and key, and why.
+impl From<Reason> for u32 {
+    ghost from_gives = { λ x n. n ≡ reason_number x };
+
+    fn from(x: Reason) -> u32 {
+        x as u32
+    }
+}
+
+// Of a read check that does not pass: the first failing entry's index and key, and why.
 #[derive(Clone, Copy)]
-pub enum Checked {
-    Pass,
-    Fails {
-        index: u32,
-        key: u32,
-        reason: Reason,
-    },
-    Refused(Refusal),
+pub struct Failure {
+    pub index: u32,
+    pub key: u32,
+    pub reason: Reason,
 }
 
 // Of one set at closing, with the smallest key lost or found wrong.
@@ -62,40 +67,7 @@ pub enum Verdict {
     Unfit(u32),
 }
 
-impl Refusal {
-    pub fn number(self) -> u32
-        ensures { result ≡ refusal_number self }
-    {
-        match self {
-            Refusal::RegisterIllFormed => 1,
-            Refusal::SheetIllFormed => 2,
-            Refusal::OfferIllFormed => 3,
-            Refusal::WrongEpoch => 4,
-            Refusal::WrongRoster => 5,
-            Refusal::Spoiled => 6,
-            Refusal::Incomplete => 7,
-            Refusal::TooManyRows => 8,
-            Refusal::BufferShort => 9,
-            Refusal::CheckIllFormed => 10,
-            Refusal::BadTag => 11,
-            Refusal::KeyEntered => 12,
-            Refusal::NinthRecord => 13,
-        }
-    }
-}
-
-impl Reason {
-    pub fn number(self) -> u32
-        ensures { result ≡ reason_number self }
-    {
-        match self {
-            Reason::Gone => 1,
-            Reason::OtherCsn => 2,
-            Reason::TooNew => 3,
-        }
-    }
-}
-
+// Two numbers, and no From: a pair would only be taken apart where it is written.
 impl Verdict {
     pub fn code(self) -> u8
         ensures { result ≡ verdict_code self }
@@ -112,8 +84,7 @@ impl Verdict {
     {
         match self {
             Verdict::Commit => 0,
-            Verdict::Lost(key) => key,
-            Verdict::Unfit(key) => key,
+            Verdict::Lost(key) | Verdict::Unfit(key) => key,
         }
     }
 }

@@ -4,17 +4,15 @@
 
 mod answer;
 mod desk;
-mod extent;
 mod limit;
 mod mark;
 mod row;
 
-pub use answer::{Answer, Checked, Closed, Reason, Refusal, Verdict};
-pub use desk::{Entered, OpenSet};
-pub use extent::Extent;
+pub use answer::{Closed, Failure, Reason, Refusal, Verdict};
+pub use desk::OpenSet;
 pub use limit::{
     MAX_NOTICE, MAX_READS, MAX_RECORDS, MAX_ROWS, MAX_SETS, NO_NOTICE, REGISTER_ROOM, SHEET_ROOM,
     TAG_ROOM, VERDICT_ROOM,
 };
 pub use mark::Mark;
-pub use row::{Read, Record, Row};
+pub use row::{Kind, Read, Record, Row, UnknownKind};

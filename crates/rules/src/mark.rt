@@ -2,6 +2,8 @@
 ghost use Rattle.std.specs.Prelude.{◌≡◌};
 ghost use Rattle.rules.specs.Numbers.{mark_of, precedes, earlier};
 
+use std::cmp::Reverse;
+
 #[derive(Clone, Copy)]
 pub struct Mark {
     pub cen: u32,
@@ -23,18 +25,14 @@ impl Mark {
         Self { cen, sen, csn }
     }
 
+    #[tactic(auto, unfolding(crate::specs::Numbers::precedes))]
     pub fn precedes(self, other: Mark) -> bool
         ensures { result ≡ precedes self other }
     {
-        if self.cen != other.cen {
-            return self.cen < other.cen;
-        }
-        if self.sen != other.sen {
-            return other.sen < self.sen;
-        }
-        self.csn < other.csn
+        (self.cen, Reverse(self.sen), self.csn) < (other.cen, Reverse(other.sen), other.csn)
     }
 
+    #[tactic(auto, unfolding(crate::specs::Numbers::earlier))]
     pub fn earlier(self, other: Mark) -> Mark
         ensures { result ≡ earlier self other }
     {

@@ -7,8 +7,7 @@ use lib.ListN.{set, length-append}
 use Rattle.words.specs.Words.{Bytes, le, stored}
 use Rattle.words.specs.WordLaws.{le_length, then_stored}
 use Rattle.rules.specs.Sheet.{state_byte}
-use Rattle.rules.specs.Gathering.{no_notices}
-use Rattle.sheets.specs.SheetReadings.{notices_place, start_bytes, entry_bytes}
+use Rattle.sheets.specs.SheetReadings.{start_bytes, entry_bytes}
 
 pub start_stored : (l₀ : Bytes) {l₁ l₂ : Bytes} (epoch roster x n : ℕ) (t : Bool) → l₁ ≡ stored l₀ 0 (le 4 epoch) → l₂ ≡ stored l₁ 4 (le 2 roster) → x ≡ state_byte t
     → set (set l₂ 6 x) 7 n ≡ stored l₀ 0 (start_bytes epoch roster t n)
@@ -30,9 +29,3 @@ entry_stored l₀ at csn sen first count p q r s =
     let x = then_stored l₀ at (at + 8) a (le 4 sen) p q (simp le_length) in
     let y = then_stored l₀ at (at + 12) b (le 2 first) x r (simp (length-append, le_length)) in
     then_stored l₀ at (at + 14) c (le 2 count) y s (simp (length-append, le_length))
-
-pub none_stored : (l₀ : Bytes) {l₁ l₂ : Bytes} → l₁ ≡ stored l₀ 8 (le 8 18446744073709551615) → l₂ ≡ stored l₁ 16 (le 8 18446744073709551615) → l₂ ≡ stored l₀ notices_place no_notices
-none_stored l₀ p q =
-    let a = le 8 18446744073709551615 in
-    let e : a ++ a ≡ no_notices = unfold le in refl in
-    then_stored l₀ 8 16 a a p q (simp le_length) ∙ ap (stored l₀ 8) e

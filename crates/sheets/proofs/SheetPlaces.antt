@@ -7,20 +7,15 @@ use native.Mathlib.Nat.{add-zero, zero-add}
 use native.Mathlib.Omega.{arith}
 use lib.ListN.{length, get_or, take, drop, length-drop}
 use lib.Seq.{drop_at, take_at, drop-drop, get_or-drop, get_or-take, drop-cons, drop-nil, drop-append-le}
+use Rattle.std.proofs.lemmas.List.{get_or_default}
 use Rattle.words.specs.Words.{Bytes, le, word, part}
 use Rattle.words.specs.WordLaws.{word_drop, word_le}
 use Rattle.rules.specs.declared.row.Record.{Record}
 use Rattle.rules.specs.Lists.{flat}
 use Rattle.rules.specs.Sheet.{WriteSet, no_notice, records_bytes, contents_from, bodies, head_bytes, sheet_bytes, record_in, records_in, sets_in, sheet_in, is_sheet}
 use Rattle.laws.specs.SheetLaws.{sets_count, contents_length, records_length, records_count}
-use Rattle.sheets.specs.SheetReadings.{no_set, set_at, record_at, notice_at, no_record, total, master_count, head_length, entry_place, body_place}
+use Rattle.sheets.specs.SheetReadings.{no_set, set_at, record_at, notice_at, no_record, total, master_count, head_length, entry_place, body_place, record_length}
 use Rattle.sheets.specs.SheetSizes.{Formed, formed, total_mono, few_sets, few_records}
-
--- what stands past the end does not matter before it
-get_d_default : (l : Bytes) (k d e : ℕ) → k < length l → get_or l k d ≡ get_or l k e
-get_d_default [] k d e h = absurd (omega arith)
-get_d_default (x ∷ xs) zero d e h = refl
-get_d_default (x ∷ xs) (suc k) d e h = get_d_default xs k d e (omega arith)
 
 -- ---- entries
 
@@ -160,10 +155,11 @@ unfolding notice_at sheet_in part
 notice_place b m e h =
     let r = room b e in
     let l : m < length (drop 8 b) = simp length-drop (omega arith) in
-    sym (get_or-drop 8 b m 0) ∙ get_d_default (drop 8 b) m 0 no_notice l ∙ sym (get_or-take 16 (drop 8 b) m no_notice h)
+    sym (get_or-drop 8 b m 0) ∙ get_or_default (drop 8 b) m 0 no_notice l ∙ sym (get_or-take 16 (drop 8 b) m no_notice h)
 
-pub entry_room : (b : Bytes) (i : ℕ) → is_sheet b ≡ true → i < length (sheet_in b).sets → (entry_place (i + 1) ≤ length b) × (i < 64)
-entry_room b i e h = let f = formed b e in (omega (arith, f.long), omega (arith, few_sets b e))
+-- how long a sheet is by its sets
+pub long : (b : Bytes) → is_sheet b ≡ true → length b ≡ entry_place (length (sheet_in b).sets) + record_length * total (sheet_in b).sets
+long b e = (formed b e).long
 
 pub body_room : (b : Bytes) (i : ℕ) → is_sheet b ≡ true → i < length (sheet_in b).sets
     → body_place (sheet_in b) i + 16 * length (set_at (sheet_in b) i).records ≤ length b
@@ -188,14 +184,22 @@ first_record b i e h =
     first_of w ws rest n h = unfold contents_from word le in word_le 2 n h
 
 -- the body of set i is the part at its place
-pub body_part : (b : Bytes) (i : ℕ) → is_sheet b ≡ true → i < length (sheet_in b).sets
-    → take (16 * length (set_at (sheet_in b) i).records) (drop (body_place (sheet_in b) i) b) ≡ records_bytes (set_at (sheet_in b) i).records
+pub body_part : (b : Bytes) (i at k : ℕ) → is_sheet b ≡ true → i < length (sheet_in b).sets → at ≡ body_place (sheet_in b) i → k ≡ 16 * length (set_at (sheet_in b) i).records
+    → take k (drop at b) ≡ records_bytes (set_at (sheet_in b) i).records
 unfolding set_at bodies records_bytes flat
-body_part b i e h =
-    let ws = (sheet_in b).sets in
-    let rs = (get_or ws i no_set).records in
-    ap (take (16 * length rs)) (after_body b i (formed b e) ∙ ap bodies (drop-cons ws i no_set h))
-    ∙ front rs (drop (suc i) ws)
+body_part b i at k e h p q = rw (p, q) here
   where
     front : (rs : List Record) (ws : List WriteSet) → take (16 * length rs) (records_bytes rs ++ bodies ws) ≡ records_bytes rs
     front rs ws = take_at (records_bytes rs) (bodies ws) (16 * length rs) (records_length rs)
+
+    here : take (16 * length (set_at (sheet_in b) i).records) (drop (body_place (sheet_in b) i) b) ≡ records_bytes (set_at (sheet_in b) i).records
+    here =
+        let ws = (sheet_in b).sets in
+        let rs = (get_or ws i no_set).records in
+        ap (take (16 * length rs)) (after_body b i (formed b e) ∙ ap bodies (drop-cons ws i no_set h))
+        ∙ front rs (drop (suc i) ws)
+
+-- for the goals of a sheet's readings, and of a set's
+pub ruleset head_readings = (room, notice_place, set_count_lem)
+
+pub ruleset set_readings = (long, few_sets, set_count_lem, set_csn_lem, set_sen_lem, record_count_lem, record_place_lem, body_room, first_record, body_part)

@@ -5,3 +5,4 @@ pub mod SheetReadings
 pub mod SheetSizes
 pub mod SheetWritten
 pub mod Taking
+pub mod Views

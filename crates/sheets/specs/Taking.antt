@@ -1,8 +1,8 @@
 -- From which of two sheets the next set is taken: what a decision of that names.
 use Rattle.std.specs.Prelude.{ℕ, ◌<◌, ◌≡◌, ltb, length, if◌then◌else◌}
 use Rattle.rules.specs.Sheet.{WriteSet, Sheet}
-use Rattle.sheets.specs.declared.reading.Next.{Next}
-use Rattle.sheets.specs.declared.reading.Next.TheVariants.{First, Second, Both}
+use Rattle.sheets.specs.declared.next.Next.{Next}
+use Rattle.sheets.specs.declared.next.Next.TheVariants.{First, Second, Both}
 use Rattle.sheets.specs.SheetReadings.{set_at}
 
 -- of two sets the one with the smaller csn

@@ -2,44 +2,34 @@
 ghost use Rattle.std.specs.Prelude.{◌≡◌};
 ghost use Rattle.sheets.specs.SheetLength.{contents_end, sheet_end};
 
-use rules::{Extent, MAX_SETS};
-use words::get16;
-
-// How many bytes of a stream tell how long head and contents of its sheet are.
-pub const SHEET_HEAD: usize = 24;
+use examine::{ENTRY, RECORD, SHEET_HEAD};
+use rules::MAX_SETS;
+use words::Word;
 
 // How long head and contents are of the sheet that starts with these bytes.
-pub fn contents_length(b: &[u8]) -> Extent
+#[tactic(auto, using(std::proofs::lemmas::Bool::Decides::nat_tests), unfolding(crate::specs::SheetLength::contents_end, rules::specs::Lists::run_lists))]
+pub fn contents_length(b: &[u8]) -> Option<usize>
     ensures { result ≡ contents_end b.now }
 {
     if b.len() < SHEET_HEAD {
-        return Extent::NoForm;
+        return None;
     }
     let n = b[7] as usize;
-    if MAX_SETS < n {
-        return Extent::NoForm;
-    }
-    let end = SHEET_HEAD + 16 * n;
-    Extent::Of(end)
+    (n <= MAX_SETS).then(|| SHEET_HEAD + ENTRY * n)
 }
 
 // How long the sheet is that starts with these bytes, if they hold its whole head and contents.
-pub fn sheet_length(b: &[u8]) -> Extent
+#[tactic(auto, using(crate::proofs::StreamLaws::counts, std::proofs::lemmas::Bool::Decides::nat_tests), unfolding(crate::specs::SheetLength::sheet_end, crate::specs::SheetLength::end_from, crate::specs::SheetLength::contents_end, rules::specs::Lists::run_lists))]
+pub fn sheet_length(b: &[u8]) -> Option<usize>
     ensures { result ≡ sheet_end b.now }
 {
-    let Extent::Of(end) = contents_length(b) else {
-        return Extent::NoForm;
-    };
+    let end = contents_length(b)?;
     if b.len() < end {
-        return Extent::NoForm;
+        return None;
     }
-    let n = b[7] as usize;
-    let mut records: usize = 0;
-    let mut i: usize = 0;
-    while i < n {
-        records += get16(b, 24 + 16 * i + 14) as usize;
-        i += 1;
+    let mut records = 0;
+    for i in 0..b[7] as usize {
+        records += u16::get(b, SHEET_HEAD + ENTRY * i + 14) as usize;
     }
-    let len = end + 16 * records;
-    Extent::Of(len)
+    Some(end + RECORD * records)
 }

@@ -1,3 +1,2 @@
 pub mod ReadingLaws
 pub mod WritingLaws
-pub mod TagLaws

@@ -5,5 +5,5 @@ mod reading;
 mod table;
 mod writing;
 
-pub use reading::{Tagged, read_tag};
+pub use reading::read_tag;
 pub use writing::tag;

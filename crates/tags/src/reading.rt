@@ -1,62 +1,35 @@
 // A tag read: its key, if it is a station's.
 ghost use Rattle.std.specs.Prelude.{◌≡◌};
+ghost use Rattle.rules.specs.Lists.{all};
 ghost use Rattle.rules.specs.Tag.{is_digit, key_of_tag};
-ghost use Rattle.tags.specs.Tagged.{tagged_of};
 
 use crate::table::next_digit;
 use rules::TAG_ROOM;
 
-// The key of a station's tag, or no station's.
-#[derive(Clone, Copy)]
-pub enum Tagged {
-    Key(u32),
-    Bad,
-}
-
-// Whether a byte is an ASCII digit, 0 to 9.
-fn is_digit(b: u8) -> bool
-    ensures { result ≡ is_digit b }
+// Whether every byte is an ASCII digit, 0 to 9.
+fn are_digits(tag: &[u8]) -> bool
+    ensures { result ≡ all is_digit tag.now }
 {
-    if b < 48 {
-        return false;
-    }
-    if 57 < b {
-        return false;
-    }
-    true
+    tag.iter().all(u8::is_ascii_digit)
 }
 
 // Ten digits make the key, and with the eleventh they lead to 0.
-pub fn read_tag(tag: &[u8]) -> Tagged
-    ensures { result ≡ tagged_of (key_of_tag tag.now) }
+pub fn read_tag(tag: &[u8]) -> Option<u32>
+    ensures { result ≡ key_of_tag tag.now }
 {
-    if tag.len() != TAG_ROOM {
-        return Tagged::Bad;
+    if tag.len() != TAG_ROOM || !are_digits(tag) {
+        return None;
     }
     let mut interim: u8 = 0;
     let mut key: u64 = 0;
-    let mut i: usize = 0;
-    while i < 10 {
-        let b = tag[i];
-        if !is_digit(b) {
-            return Tagged::Bad;
-        }
-        interim = next_digit(interim, b - 48);
-        key = key * 10 + ((b - 48) as u64);
-        i += 1;
+    for b in &tag[..10] {
+        let digit = *b - b'0';
+        interim = next_digit(interim, digit);
+        key = key * 10 + u64::from(digit);
     }
-    let b = tag[10];
-    if !is_digit(b) {
-        return Tagged::Bad;
+    let check = tag[10] - b'0';
+    if next_digit(interim, check) != 0 || key == 0 {
+        return None;
     }
-    if next_digit(interim, b - 48) != 0 {
-        return Tagged::Bad;
-    }
-    if key == 0 {
-        return Tagged::Bad;
-    }
-    if 4294967295 < key {
-        return Tagged::Bad;
-    }
-    Tagged::Key(key as u32)
+    u32::try_from(key).ok()
 }

@@ -17,6 +17,7 @@ const DAMM: [[u8; 10]; 10] = [
 ];
 
 // The interim digit after one more digit.
+#[tactic(auto, unfolding(rules::specs::Tag::step, rules::specs::Tag::damm))]
 pub fn next_digit(interim: u8, digit: u8) -> u8
     requires { (interim < 10) × (digit < 10) }
     ensures { result ≡ step interim digit }

@@ -6,7 +6,7 @@ ghost use Rattle.rules.specs.Refused.{tag_outcome};
 ghost use Rattle.rules.specs.Promises.{Promise};
 
 use crate::table::next_digit;
-use rules::{Answer, Refusal, TAG_ROOM};
+use rules::{Refusal, TAG_ROOM};
 
 // The tag of a key, at the start of a buffer: ten digits, the highest first, and the check digit.
 fn put_tag(key: u32, out: &mut [u8])
@@ -15,26 +15,24 @@ fn put_tag(key: u32, out: &mut [u8])
 {
     let mut weight: u64 = 10000000000;
     let mut interim: u8 = 0;
-    let mut i: usize = 0;
-    while i < 10 {
+    for i in 0..10 {
         weight /= 10;
-        let d = ((key as u64) / weight % 10) as u8;
-        out[i] = 48 + d;
-        interim = next_digit(interim, d);
-        i += 1;
+        let digit = (u64::from(key) / weight % 10) as u8;
+        out[i] = b'0' + digit;
+        interim = next_digit(interim, digit);
     }
-    out[10] = 48 + interim;
+    out[10] = b'0' + interim;
 }
 
-pub fn tag(key: u32, out: &mut [u8]) -> Answer
+pub fn tag(key: u32, out: &mut [u8]) -> Result<usize, Refusal>
     ensures { Promise (tag_outcome key (length out.old)) out.old result out.new }
 {
     if key == 0 {
-        return Answer::Refused(Refusal::BadTag);
+        return Err(Refusal::BadTag);
     }
     if out.len() < TAG_ROOM {
-        return Answer::Refused(Refusal::BufferShort);
+        return Err(Refusal::BufferShort);
     }
     put_tag(key, out);
-    Answer::Wrote(TAG_ROOM)
+    Ok(TAG_ROOM)
 }

@@ -6,48 +6,50 @@ mod case;
 use case::run_case;
 use std::env::{Env, FillError};
 use std::fs::File;
-use std::os::fd::AsRawFd;
+use std::io;
+
+// No path is longer.
+const PATH_MOST: usize = 4096;
 
 // Every case of an open file. At most 4,294,967,295 are run, so that no file keeps the program for ever.
-fn run_cases(file: i32) {
-    let mut left = u32::MAX;
-    while 0 < left && run_case(file) {
-        left -= 1;
-    }
-}
-
-fn run_file(rt: &HostRuntime, name: &str) {
-    match File::open(rt, name) {
-        Ok(file) => run_cases(file.as_raw_fd()),
-        Err(e) => {
-            let _ = eprintln!(rt; "{name}: {e}");
+fn run_cases(rt: &impl Print, file: &mut File) -> io::Result<()> {
+    for _ in 0..u32::MAX {
+        if !run_case(rt, file)? {
+            break;
         }
     }
+    Ok(())
+}
+
+// What cannot be written is not told, and the next file is run.
+fn run_file(rt: &HostRuntime, name: &str) {
+    let _ = match File::open(rt, name) {
+        Ok(mut file) => run_cases(rt, &mut file),
+        Err(e) => eprintln!(rt; "{name}: {e}"),
+    };
 }
 
 // A name that std cannot open, told as one that is not there.
-fn tell_unread(name: &[u8]) {
-    io::write_all(2, name);
-    io::write_all(2, b": not UTF-8\n");
+fn tell_unread(rt: &HostRuntime, name: &[u8]) -> io::Result<()> {
+    let stderr = rt.stderr();
+    stderr.write_all(name)?;
+    stderr.println(": not UTF-8")
 }
 
 // The file that argument i names. Answers whether there is such an argument; one that is longer than a path may be is taken as empty.
 fn run_argument(rt: &HostRuntime, i: usize) -> bool {
-    let mut name = io::buffer();
+    let mut name = [0u8; PATH_MOST];
     match rt.arg(i, &mut name) {
-        Ok(n) => {
-            match std::str::from_utf8(&name[..n]) {
-                Ok(text) => run_file(rt, text),
-                Err(_) => tell_unread(&name[..n]),
+        Ok(n) => match std::str::from_utf8(&name[..n]) {
+            Ok(text) => run_file(rt, text),
+            Err(_) => {
+                let _ = tell_unread(rt, &name[..n]);
             }
-            true
-        }
-        Err(FillError::TooLong) => {
-            run_file(rt, "");
-            true
-        }
-        Err(FillError::NotPresent) => false,
+        },
+        Err(FillError::TooLong) => run_file(rt, ""),
+        Err(FillError::NotPresent) => return false,
     }
+    true
 }
 
 fn main(rt: HostRuntime) {

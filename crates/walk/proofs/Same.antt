@@ -1,72 +1,52 @@
--- Two sets of one csn are equal in all fields, or clash. Their records are compared one after another: those that are left decide.
-use Prim.Native.Nat.{ℕ, ◌+◌, ◌<◌, ◌≤◌}
-use mathlib.Core.Path.{◌≡◌, refl, sym, ◌∙◌, ap₂}
-use mathlib.Core.Bool.{Bool, true, false, not, false≢true}
-use mathlib.Core.List.{List, [], ◌∷◌}
-use native.Mathlib.Numerals.{add-one}
-use native.Mathlib.Omega.{arith}
-use borrow.Author.Tests.{eq-eqb, ne_eqb}
-use lib.ListN.{length, get_or, drop, drop_of_length-le}
-use lib.Seq.{drop-cons}
+-- Two sets of examined sheets have equal records if their bodies are equal bytes.
+use Rattle.std.specs.Prelude.{ℕ, ◌≡◌, true, List, [], ◌∷◌, length}
+use Rattle.std.proofs.Common.{sym, ◌∙◌, ap, ap₂, arith, refl, append-nil, eq-eqb}
+use Rattle.std.specs.Str.{bytes_eq}
+use Rattle.std.proofs.lemmas.Bool.Decides.{same_from_decides, Decides-like}
+use Rattle.std.proofs.lemmas.Slice.Eq.{bytes_eq-Decides}
+use Rattle.words.specs.Words.{Bytes}
 use Rattle.rules.specs.declared.row.Record.{Record}
 use Rattle.rules.specs.Lists.{◌and◌}
-use Rattle.rules.specs.Sheet.{WriteSet}
-use Rattle.rules.specs.Gathering.{same_record, same_records, same_set, clash}
-use Rattle.laws.specs.Tests.{not_true_false, right}
-use Rattle.laws.specs.Loops.{stops, goes}
-use Rattle.sheets.specs.SheetReadings.{no_record}
+use Rattle.rules.specs.Sheet.{WriteSet, sound_records, records_bytes, records_in}
+use Rattle.rules.specs.Gathering.{same_record, same_records, same_set}
+use Rattle.laws.specs.Tests.{right, both}
+use Rattle.laws.specs.Distinct.{same_set→}
+use Rattle.laws.specs.SheetLaws.{records_at, records_length}
+use Rattle.sheets.specs.declared.set.WriteSet as view
+use Rattle.sheets.specs.SheetMembers.{records_sound}
+use Rattle.sheets.specs.Views.{set_of}
 
--- ---- records
+-- ---- two lists of records
 
--- equal lists are equally long
-same_long : (xs ys : List Record) → same_records xs ys ≡ true → length xs ≡ length ys
-unfolding same_records
-same_long [] [] e = refl
-same_long [] (y ∷ ys) e = absurd (false≢true e)
-same_long (x ∷ xs) [] e = absurd (false≢true e)
-same_long (x ∷ xs) (y ∷ ys) e = omega (arith, same_long xs ys (right _ _ e))
+same→ : (xs ys : List Record) → same_records xs ys ≡ true → xs ≡ ys
+same→ xs ys e =
+    let s : List Record → WriteSet = λ rs. record { csn = 0; sen = 0; records = rs } in
+    ap (λ (w : WriteSet). w.records) (same_set→ (s xs) (s ys) (unfold same_set ◌and◌ in e))
 
--- what is left of two lists from number k on is equal
-abbrev pub rest : List Record → List Record → ℕ → Bool
-rest xs ys k = same_records (drop k xs) (drop k ys)
+same_itself : (xs : List Record) → same_records xs xs ≡ true
+unfolding same_records same_record
+same_itself [] = refl
+same_itself (x ∷ xs) = both (both (eq-eqb _ _ refl) (both (eq-eqb _ _ refl) (eq-eqb _ _ refl))) (same_itself xs)
 
-module _ (xs ys : List Record) where
-  pub other_length : (length xs ≡ length ys → ⊥) → false ≡ same_records xs ys
-  other_length h = sym (not_true_false (λ e. h (same_long xs ys e)))
+-- sound records are told from their bytes
+told : (xs : List Record) → sound_records xs ≡ true → records_in (length xs) (records_bytes xs) 0 ≡ xs
+unfolding sound_records
+told xs e = records_at xs (records_bytes xs) 0 [] (right _ _ (right _ _ (right _ _ e))) (sym (append-nil (records_bytes xs)))
 
-  module _ (k : ℕ) (p : same_records xs ys ≡ rest xs ys k) where
-    module _ (h : k < length xs) (l : k < length ys) where
-      -- the next records decide with what is behind them
-      next : rest xs ys k ≡ same_record (get_or xs k no_record) (get_or ys k no_record) and rest xs ys (k + 1)
-      unfolding same_records
-      next = rw (drop-cons xs k no_record h, drop-cons ys k no_record l, add-one k)
+by_bytes : (xs ys : List Record) → sound_records xs ≡ true → sound_records ys ≡ true → records_bytes xs ≡ records_bytes ys → xs ≡ ys
+by_bytes xs ys p q e =
+    let n : length xs ≡ length ys = omega (arith, ap length e, records_length xs, records_length ys) in
+    sym (told xs p) ∙ ap₂ (λ (k : ℕ) (b : Bytes). records_in k b 0) n e ∙ told ys q
 
-      pub other_record : same_record (get_or xs k no_record) (get_or ys k no_record) ≡ false → false ≡ same_records xs ys
-      other_record = stops _ _ p next
+-- ---- two sets
 
-      pub same_record_lem : same_record (get_or xs k no_record) (get_or ys k no_record) ≡ true → same_records xs ys ≡ rest xs ys (k + 1)
-      same_record_lem = goes _ _ p next
+sound : (w : view.WriteSet) → sound_records (set_of w).records ≡ true
+sound w = records_sound w.sheet.bytes.now w.i w.sheet.examined w.within
 
-    pub ends : length xs ≤ k → length ys ≤ k → true ≡ same_records xs ys
-    unfolding same_records
-    ends h l = sym (p ∙ ap₂ same_records (drop_of_length-le xs h) (drop_of_length-le ys l))
-
--- ---- sets
-
-module _ (v w : WriteSet) (c : v.csn ≡ w.csn) where
-  pub clash_by : not (same_set v w) ≡ clash v w
-  unfolding clash ◌and◌
-  clash_by = rw (eq-eqb v.csn w.csn c)
-
-  pub other_sen : (v.sen ≡ w.sen → ⊥) → false ≡ same_set v w
-  unfolding same_set ◌and◌
-  other_sen h = rw (eq-eqb v.csn w.csn c, ne_eqb v.sen w.sen h)
-
-  pub by_records : v.sen ≡ w.sen → same_records v.records w.records ≡ same_set v w
-  unfolding same_set ◌and◌
-  by_records s = rw (eq-eqb v.csn w.csn c, eq-eqb v.sen w.sen s)
-
--- sets of different csns do not clash
-pub no_clash : (v w : WriteSet) → (v.csn ≡ w.csn → ⊥) → false ≡ clash v w
-unfolding clash ◌and◌
-no_clash v w h = rw (ne_eqb v.csn w.csn h)
+pub same_bodies : (v w : view.WriteSet) → bytes_eq (records_bytes (set_of v).records) (records_bytes (set_of w).records) ≡ same_records (set_of v).records (set_of w).records
+same_bodies v w =
+    let xs = (set_of v).records in
+    let ys = (set_of w).records in
+    same_from_decides {P = xs ≡ ys} _ _
+    (Decides-like _ (by_bytes xs ys (sound v) (sound w)) (ap records_bytes) (bytes_eq-Decides (records_bytes xs) (records_bytes ys)))
+    (same→ xs ys, λ e. rw (← e) (same_itself xs))

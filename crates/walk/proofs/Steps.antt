@@ -1,25 +1,30 @@
 -- One step of the walk over two sheets: what is behind a place, and which set is next.
-use Prim.Native.Nat.{ℕ, ◌+◌, ◌-◌, ◌<◌, ◌≤◌}
-use mathlib.Core.Path.{◌≡◌, refl, sym, ◌∙◌, ap}
-use mathlib.Core.Bool.{true, false}
+use Rattle.std.specs.Prelude.{ℕ, ◌+◌, ◌-◌, ◌*◌, ◌<◌, ◌≤◌, ◌≡◌, refl, true, false, List, ◌∷◌, ◌++◌, length, get_or, drop, ltb}
 use mathlib.Core.List.Memᴰ
-use mathlib.Core.List.{List, ◌∷◌, ◌++◌}
-use native.Mathlib.Omega.{arith}
-use lib.ListN.{length, get_or, drop, length-append, length-drop, drop_of_length-le}
-use Rattle.words.specs.Words.{Bytes}
-use Rattle.rules.specs.Sheet.{WriteSet, sheet_in}
+use Rattle.std.proofs.Common.{sym, ◌∙◌, ap, ap₂, arith, add-one, drop-cons, length-append, length-drop, drop_of_length-le, lt-ltb, le-ltb}
+use Rattle.std.proofs.Math.Decide.{dec_lt}
+use Rattle.rules.specs.Sheet.{WriteSet, Sheet, max_sets}
 use Rattle.rules.specs.Gathering.{distinct, clash, some_two}
 use Rattle.laws.specs.Distinct.{Sorted, sheet_sorted, some_two_in}
 use Rattle.laws.specs.Merging.{drop_sorted, next_first, next_second, next_both, next_left, next_right, distinct_le, distinct_some, clash_first, clash_second, clash_both, clash_not, clash_left, clash_right}
+use Rattle.laws.specs.Joining.{together}
 use Rattle.laws.specs.SheetLaws.{sheet_sound}
-use Rattle.sheets.specs.declared.reading.Next.TheVariants as next
+use Rattle.sheets.specs.declared.sheet.Sheet as examined
+use Rattle.sheets.specs.declared.next.Next.TheVariants as next
 use Rattle.sheets.specs.SheetReadings.{no_set, set_at}
+use Rattle.sheets.specs.SheetSizes.{few_sets}
+use Rattle.sheets.specs.declared.next.Next.{Next}
 use Rattle.sheets.specs.Taking.{taken}
-use Rattle.walk.specs.declared.place.Place.{Place}
-use Rattle.walk.specs.Walk.{unpassed, behind, next_at, passed, At, BothLeft, Advanced, Decided}
-use Rattle.walk.specs.Walks.{from}
+use Rattle.sheets.specs.Views.{sheet_of}
+use Rattle.walk.specs.declared.walk.Walk as code
+use Rattle.walk.specs.Walk.{Place, unpassed, behind, next_at, passed, BothLeft, Advanced, Decided}
+use Rattle.walk.specs.Views.{walk_place}
 
 -- ---- over lists
+
+-- a list from set i on
+from : (xs : List WriteSet) (i : ℕ) → i < length xs → drop i xs ≡ get_or xs i no_set ∷ drop (i + 1) xs
+from xs i h = drop-cons xs i no_set h ∙ ap (λ (k : ℕ). get_or xs i no_set ∷ drop k xs) (sym (add-one i))
 
 module _ (xs ys : List WriteSet) (i j : ℕ) where
   left_length : length (drop i xs ++ drop j ys) ≡ (length xs - i) + (length ys - j)
@@ -80,133 +85,167 @@ first_of l = get_or l 0 no_set
 abbrev place : ℕ → ℕ → Place
 place i j = record { i = i; j = j }
 
-module _ (a b : Bytes) (p : Place) (k : At a b p) where
-  sa : Sorted (sheet_in a).sets
-  sa = sheet_sorted (sheet_in a) (sheet_sound a k.one)
+-- a place in two sheets whose sets stand in csn order
+pub record At (a b : Sheet) (p : Place) : Type 0 where
+  pub one : Sorted a.sets
+  pub two : Sorted b.sets
+  pub first : p.i ≤ length a.sets
+  pub second : p.j ≤ length b.sets
 
-  sb : Sorted (sheet_in b).sets
-  sb = sheet_sorted (sheet_in b) (sheet_sound b k.two)
+-- the place of a walk
+pub at : (w : code.Walk) → At (sheet_of w.a) (sheet_of w.b) (walk_place w)
+at w = record {
+  one = sheet_sorted (sheet_of w.a) (sheet_sound w.a.bytes.now w.a.examined);
+  two = sheet_sorted (sheet_of w.b) (sheet_sound w.b.bytes.now w.b.examined);
+  first = w.first;
+  second = w.second;
+}
 
-  pub some_left : p.i < length (sheet_in a).sets → 0 < length (behind (sheet_in a) (sheet_in b) p)
+module _ (a b : Sheet) (p : Place) (k : At a b p) where
+  pub some_left : p.i < length a.sets → 0 < length (behind a b p)
   unfolding behind unpassed
-  some_left h = distinct_some _ (omega (arith, left_length (sheet_in a).sets (sheet_in b).sets p.i p.j))
+  some_left h = distinct_some _ (omega (arith, left_length a.sets b.sets p.i p.j))
 
-  pub some_right : p.j < length (sheet_in b).sets → 0 < length (behind (sheet_in a) (sheet_in b) p)
+  pub some_right : p.j < length b.sets → 0 < length (behind a b p)
   unfolding behind unpassed
-  some_right h = distinct_some _ (omega (arith, left_length (sheet_in a).sets (sheet_in b).sets p.i p.j))
+  some_right h = distinct_some _ (omega (arith, left_length a.sets b.sets p.i p.j))
 
-  pub none : length (sheet_in a).sets ≤ p.i → length (sheet_in b).sets ≤ p.j → length (behind (sheet_in a) (sheet_in b) p) ≤ 0
+  pub none : length a.sets ≤ p.i → length b.sets ≤ p.j → length (behind a b p) ≤ 0
   unfolding behind unpassed
   none h l =
-      omega (arith, distinct_le (drop p.i (sheet_in a).sets ++ drop p.j (sheet_in b).sets), left_length (sheet_in a).sets (sheet_in b).sets p.i p.j)
+      omega (arith, distinct_le (drop p.i a.sets ++ drop p.j b.sets), left_length a.sets b.sets p.i p.j)
+
+  -- where the first sheet is used up, the second tells whether a set is left
+  pub more_by : length a.sets ≤ p.i → ltb p.j (length b.sets) ≡ ltb 0 (length (behind a b p))
+  more_by h =
+      elim (dec_lt p.j (length b.sets)) [
+        | yes l ↦ lt-ltb _ _ l ∙ sym (lt-ltb 0 _ (some_right l))
+        | no l ↦ le-ltb _ _ (omega arith) ∙ sym (le-ltb 0 _ (none h (omega arith)))
+      ]
 
   -- a set is there, so where one sheet is used up the other is not
-  pub left_on : 0 < length (behind (sheet_in a) (sheet_in b) p) → p.j ≡ length (sheet_in b).sets → p.i < length (sheet_in a).sets
+  pub left_on : 0 < length (behind a b p) → p.j ≡ length b.sets → p.i < length a.sets
   unfolding behind unpassed
   left_on h e =
-      omega (arith, k.first, distinct_le (drop p.i (sheet_in a).sets ++ drop p.j (sheet_in b).sets), left_length (sheet_in a).sets (sheet_in b).sets p.i p.j)
+      omega (arith, k.first, distinct_le (drop p.i a.sets ++ drop p.j b.sets), left_length a.sets b.sets p.i p.j)
 
-  take_left : p.i < length (sheet_in a).sets → p.j ≡ length (sheet_in b).sets → next_at (sheet_in a) (sheet_in b) p ≡ set_at (sheet_in a) p.i
+  take_left : p.i < length a.sets → p.j ≡ length b.sets → next_at a b p ≡ set_at a p.i
   unfolding behind unpassed next_at set_at
-  take_left h e = ap first_of (pass_left (sheet_in a).sets (sheet_in b).sets p.i p.j sa sb h (omega arith))
+  take_left h e = ap first_of (pass_left a.sets b.sets p.i p.j k.one k.two h (omega arith))
 
-  take_right : p.i ≡ length (sheet_in a).sets → p.j < length (sheet_in b).sets → next_at (sheet_in a) (sheet_in b) p ≡ set_at (sheet_in b) p.j
+  take_right : p.i ≡ length a.sets → p.j < length b.sets → next_at a b p ≡ set_at b p.j
   unfolding behind unpassed next_at set_at
-  take_right e h = ap first_of (pass_right (sheet_in a).sets (sheet_in b).sets p.i p.j sa sb (omega arith) h)
+  take_right e h = ap first_of (pass_right a.sets b.sets p.i p.j k.one k.two (omega arith) h)
 
-  step_left : p.i < length (sheet_in a).sets → p.j ≡ length (sheet_in b).sets → Advanced a b p (place (p.i + 1) p.j)
+  step_left : p.i < length a.sets → p.j ≡ length b.sets → Advanced a b p (place (p.i + 1) p.j)
   unfolding behind unpassed next_at
   step_left h e = record {
     first = omega arith;
     second = k.second;
-    leaves = headed (pass_left (sheet_in a).sets (sheet_in b).sets p.i p.j sa sb h (omega arith));
+    leaves = headed (pass_left a.sets b.sets p.i p.j k.one k.two h (omega arith));
     apart = λ l c. absurd (omega arith);
   }
 
-  step_right : p.i ≡ length (sheet_in a).sets → p.j < length (sheet_in b).sets → Advanced a b p (place p.i (p.j + 1))
+  step_right : p.i ≡ length a.sets → p.j < length b.sets → Advanced a b p (place p.i (p.j + 1))
   unfolding behind unpassed next_at
   step_right e h = record {
     first = k.first;
     second = omega arith;
-    leaves = headed (pass_right (sheet_in a).sets (sheet_in b).sets p.i p.j sa sb (omega arith) h);
+    leaves = headed (pass_right a.sets b.sets p.i p.j k.one k.two (omega arith) h);
     apart = λ l c. absurd (omega arith);
   }
 
   -- where one sheet is used up, the next set is the other's
 
-  pub left_decided : p.i < length (sheet_in a).sets → p.j ≡ length (sheet_in b).sets → Decided a b p next.First
+  pub left_decided : p.i < length a.sets → p.j ≡ length b.sets → Decided a b p next.First
   unfolding passed taken
   left_decided h e = record { chosen = record { within = h; smaller = λ x y. absurd (omega arith) }; next = take_left h e; passes = step_left h e }
 
-  pub right_decided : p.i ≡ length (sheet_in a).sets → p.j < length (sheet_in b).sets → Decided a b p next.Second
+  pub right_decided : p.i ≡ length a.sets → p.j < length b.sets → Decided a b p next.Second
   unfolding passed taken
   right_decided e h = record { chosen = record { within = h; smaller = λ x y. absurd (omega arith) }; next = take_right e h; passes = step_right e h }
 
-  module _ (h : p.i < length (sheet_in a).sets) (l : p.j < length (sheet_in b).sets) where
-    take_first : (set_at (sheet_in a) p.i).csn < (set_at (sheet_in b) p.j).csn → next_at (sheet_in a) (sheet_in b) p ≡ set_at (sheet_in a) p.i
+  module _ (h : p.i < length a.sets) (l : p.j < length b.sets) where
+    take_first : (set_at a p.i).csn < (set_at b p.j).csn → next_at a b p ≡ set_at a p.i
     unfolding behind unpassed next_at set_at
-    take_first c = ap first_of (pass_first (sheet_in a).sets (sheet_in b).sets p.i p.j sa sb h l c)
+    take_first c = ap first_of (pass_first a.sets b.sets p.i p.j k.one k.two h l c)
 
-    take_second : (set_at (sheet_in b) p.j).csn < (set_at (sheet_in a) p.i).csn → next_at (sheet_in a) (sheet_in b) p ≡ set_at (sheet_in b) p.j
+    take_second : (set_at b p.j).csn < (set_at a p.i).csn → next_at a b p ≡ set_at b p.j
     unfolding behind unpassed next_at set_at
-    take_second c = ap first_of (pass_second (sheet_in a).sets (sheet_in b).sets p.i p.j sa sb h l c)
+    take_second c = ap first_of (pass_second a.sets b.sets p.i p.j k.one k.two h l c)
 
-    take_both : (set_at (sheet_in a) p.i).csn ≡ (set_at (sheet_in b) p.j).csn → next_at (sheet_in a) (sheet_in b) p ≡ set_at (sheet_in b) p.j
+    take_both : (set_at a p.i).csn ≡ (set_at b p.j).csn → next_at a b p ≡ set_at b p.j
     unfolding behind unpassed next_at set_at
-    take_both c = ap first_of (pass_both (sheet_in a).sets (sheet_in b).sets p.i p.j sa sb h l c)
+    take_both c = ap first_of (pass_both a.sets b.sets p.i p.j k.one k.two h l c)
 
-    step_first : (set_at (sheet_in a) p.i).csn < (set_at (sheet_in b) p.j).csn → Advanced a b p (place (p.i + 1) p.j)
+    step_first : (set_at a p.i).csn < (set_at b p.j).csn → Advanced a b p (place (p.i + 1) p.j)
     unfolding behind unpassed next_at set_at
     step_first c = record {
       first = omega arith;
       second = k.second;
-      leaves = headed (pass_first (sheet_in a).sets (sheet_in b).sets p.i p.j sa sb h l c);
-      apart = λ _ d. part_first (sheet_in a).sets (sheet_in b).sets p.i p.j sa sb h l c;
+      leaves = headed (pass_first a.sets b.sets p.i p.j k.one k.two h l c);
+      apart = λ _ d. part_first a.sets b.sets p.i p.j k.one k.two h l c;
     }
 
-    step_second : (set_at (sheet_in b) p.j).csn < (set_at (sheet_in a) p.i).csn → Advanced a b p (place p.i (p.j + 1))
+    step_second : (set_at b p.j).csn < (set_at a p.i).csn → Advanced a b p (place p.i (p.j + 1))
     unfolding behind unpassed next_at set_at
     step_second c = record {
       first = k.first;
       second = omega arith;
-      leaves = headed (pass_second (sheet_in a).sets (sheet_in b).sets p.i p.j sa sb h l c);
-      apart = λ _ d. part_second (sheet_in a).sets (sheet_in b).sets p.i p.j sa sb h l c;
+      leaves = headed (pass_second a.sets b.sets p.i p.j k.one k.two h l c);
+      apart = λ _ d. part_second a.sets b.sets p.i p.j k.one k.two h l c;
     }
 
-    step_both : (set_at (sheet_in a) p.i).csn ≡ (set_at (sheet_in b) p.j).csn → Advanced a b p (place (p.i + 1) (p.j + 1))
+    step_both : (set_at a p.i).csn ≡ (set_at b p.j).csn → Advanced a b p (place (p.i + 1) (p.j + 1))
     unfolding behind unpassed next_at set_at
     step_both c = record {
       first = omega arith;
       second = omega arith;
-      leaves = headed (pass_both (sheet_in a).sets (sheet_in b).sets p.i p.j sa sb h l c);
-      apart = λ _ d. part_both (sheet_in a).sets (sheet_in b).sets p.i p.j sa sb h l c d;
+      leaves = headed (pass_both a.sets b.sets p.i p.j k.one k.two h l c);
+      apart = λ _ d. part_both a.sets b.sets p.i p.j k.one k.two h l c d;
     }
 
     -- where both have one, it is the one with the smaller csn
 
-    pub first_decided : (set_at (sheet_in a) p.i).csn < (set_at (sheet_in b) p.j).csn → Decided a b p next.First
+    pub first_decided : (set_at a p.i).csn < (set_at b p.j).csn → Decided a b p next.First
     unfolding passed taken
     first_decided c = record { chosen = record { within = h; smaller = λ _ _. c }; next = take_first c; passes = step_first c }
 
-    pub second_decided : (set_at (sheet_in b) p.j).csn < (set_at (sheet_in a) p.i).csn → Decided a b p next.Second
+    pub second_decided : (set_at b p.j).csn < (set_at a p.i).csn → Decided a b p next.Second
     unfolding passed taken
     second_decided c = record { chosen = record { within = l; smaller = λ _ _. c }; next = take_second c; passes = step_second c }
 
-    pub both_decided : (set_at (sheet_in a) p.i).csn ≡ (set_at (sheet_in b) p.j).csn → Decided a b p next.Both
+    pub both_decided : (set_at a p.i).csn ≡ (set_at b p.j).csn → Decided a b p next.Both
     unfolding passed taken
     both_decided c = record { chosen = record { within = (h, l); smaller = λ _ _. c }; next = take_both c; passes = step_both c }
 
 -- clashes at a place
 
-module _ (a b : Bytes) (p : Place) (k : At a b p) where
-  pub found_clash : BothLeft a b p → clash (set_at (sheet_in a) p.i) (set_at (sheet_in b) p.j) ≡ true → some_two clash (unpassed (sheet_in a) (sheet_in b) p) ≡ true
+module _ (a b : Sheet) (p : Place) (k : At a b p) where
+  pub found_clash : BothLeft a b p → clash (set_at a p.i) (set_at b p.j) ≡ true → some_two clash (unpassed a b p) ≡ true
   unfolding unpassed set_at
-  found_clash h e = part_found (sheet_in a).sets (sheet_in b).sets p.i p.j (sa a b p k) (sb a b p k) h.0 h.1 e
+  found_clash h e = part_found a.sets b.sets p.i p.j k.one k.two h.0 h.1 e
 
-  pub first_spent : length (sheet_in a).sets ≤ p.i → some_two clash (unpassed (sheet_in a) (sheet_in b) p) ≡ false
+  pub first_spent : length a.sets ≤ p.i → some_two clash (unpassed a b p) ≡ false
   unfolding unpassed
-  first_spent h = part_right (sheet_in a).sets (sheet_in b).sets p.i p.j (sa a b p k) (sb a b p k) h
+  first_spent h = part_right a.sets b.sets p.i p.j k.one k.two h
 
-  pub second_spent : length (sheet_in b).sets ≤ p.j → some_two clash (unpassed (sheet_in a) (sheet_in b) p) ≡ false
+  pub second_spent : length b.sets ≤ p.j → some_two clash (unpassed a b p) ≡ false
   unfolding unpassed
-  second_spent h = part_left (sheet_in a).sets (sheet_in b).sets p.i p.j (sa a b p k) (sb a b p k) h
+  second_spent h = part_left a.sets b.sets p.i p.j k.one k.two h
+
+-- there are at most as many sets as two sheets have
+pub together_few : (a b : examined.Sheet) → length (together (sheet_of a) (sheet_of b)) ≤ 2 * max_sets
+unfolding together
+together_few a b =
+    omega (
+      arith,
+      distinct_le ((sheet_of a).sets ++ (sheet_of b).sets),
+      length-append (sheet_of a).sets (sheet_of b).sets,
+      few_sets a.bytes.now a.examined,
+      few_sets b.bytes.now b.examined,
+    )
+
+-- passing the set that was decided on leaves the others
+pub left_passed : {a b : Sheet} {p q : Place} {n : Next} → Decided a b p n → passed p n ≡ q → behind a b p ≡ taken n (set_at a p.i) (set_at b p.j) ∷ behind a b q
+left_passed {a} {b} d e = d.passes.leaves ∙ ap₂ (λ (w : WriteSet) (ws : List WriteSet). w ∷ ws) d.next (ap (behind a b) e)

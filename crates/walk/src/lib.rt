@@ -2,13 +2,11 @@
 #![tactic(auto)]
 
 mod clash;
-mod next;
 mod notices;
-mod place;
 mod spoil;
 mod tally;
+mod walk;
 
-pub use next::{next_entry, next_from};
 pub use notices::notice_together;
-pub use place::{Place, advance};
-pub use spoil::{Joint, joined_to};
+pub use spoil::joined_to;
+pub use walk::Walk;

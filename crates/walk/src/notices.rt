@@ -1,68 +1,47 @@
 // The notices of two sheets together: what each master noticed, and whether one has two different notices or more sets than it noticed.
 ghost use Rattle.std.specs.Prelude.{◌≡◌, ◌<◌};
 ghost use Rattle.rules.specs.Lists.{any};
-ghost use Rattle.rules.specs.Sheet.{sheet_in, sets_of, masters};
+ghost use Rattle.rules.specs.Sheet.{sets_of, masters};
 ghost use Rattle.laws.specs.Joining.{notice_together, notices_differ, together, over_at};
 ghost use Rattle.sheets.specs.SheetReadings.{master_count};
-ghost use Rattle.walk.specs.Walk.{notice_spoils, TwoSheets, Tallied};
+ghost use Rattle.sheets.specs.Views.{sheet_of};
+ghost use Rattle.walk.specs.Walk.{notice_spoils, Tallied};
 
-use forms::{MASTERS, notice};
+use forms::{MASTERS, Sheet};
 use rules::NO_NOTICE;
 
 // The smaller one: no notice is the largest byte.
-pub fn notice_together(a: &[u8], b: &[u8], m: usize) -> u8
-    requires { (TwoSheets a.now b.now) × (m < master_count) }
-    ensures { result ≡ notice_together (sheet_in a.now) (sheet_in b.now) m }
+#[tactic(auto, unfolding(laws::specs::Joining::notice_together, sheets::specs::SheetReadings::notice_at))]
+pub fn notice_together(a: &Sheet, b: &Sheet, m: usize) -> u8
+    requires { m < master_count }
+    ensures { result ≡ notice_together (sheet_of a.now) (sheet_of b.now) m }
 {
-    let x = notice(a, m);
-    let y = notice(b, m);
-    if x < y {
-        return x;
-    }
-    y
+    a.notice(m).min(b.notice(m))
 }
 
-fn differ_at(a: &[u8], b: &[u8], m: usize) -> bool
-    requires { (TwoSheets a.now b.now) × (m < master_count) }
-    ensures { result ≡ notices_differ (sheet_in a.now) (sheet_in b.now) m }
+fn differ_at(a: &Sheet, b: &Sheet, m: usize) -> bool
+    requires { m < master_count }
+    ensures { result ≡ notices_differ (sheet_of a.now) (sheet_of b.now) m }
 {
-    let x = notice(a, m);
-    let y = notice(b, m);
-    if x == NO_NOTICE {
-        return false;
-    }
-    if y == NO_NOTICE {
-        return false;
-    }
-    x != y
+    let x = a.notice(m);
+    let y = b.notice(m);
+    x != NO_NOTICE && y != NO_NOTICE && x != y
 }
 
 // Whether master m, which has so many sets, noticed fewer.
-fn over_at(a: &[u8], b: &[u8], m: usize, sets: u8) -> bool
-    requires { (TwoSheets a.now b.now) × (m < master_count) × (sets ≡ sets_of m (together (sheet_in a.now) (sheet_in b.now))) }
-    ensures { result ≡ over_at (sheet_in a.now) (sheet_in b.now) m }
+fn over_at(a: &Sheet, b: &Sheet, m: usize, sets: u8) -> bool
+    requires few { m < master_count }
+    requires counted { sets ≡ sets_of m (together (sheet_of a.now) (sheet_of b.now)) }
+    ensures { result ≡ over_at (sheet_of a.now) (sheet_of b.now) m }
 {
     let x = notice_together(a, b, m);
-    if x == NO_NOTICE {
-        return false;
-    }
-    x < sets
+    x != NO_NOTICE && x < sets
 }
 
 // One walk over the masters, whose sets are counted, for both reasons.
-pub fn notices_spoil(a: &[u8], b: &[u8], by: &[u8; 16]) -> bool
-    requires { (TwoSheets a.now b.now) × (Tallied (sheet_in a.now) (sheet_in b.now) by.now) }
-    ensures { result ≡ any (notice_spoils (sheet_in a.now) (sheet_in b.now)) masters }
+pub fn notices_spoil(a: &Sheet, b: &Sheet, by: &[u8; MASTERS]) -> bool
+    requires { Tallied (sheet_of a.now) (sheet_of b.now) by.now }
+    ensures { result ≡ any (notice_spoils (sheet_of a.now) (sheet_of b.now)) masters }
 {
-    let mut m: usize = 0;
-    while m < MASTERS {
-        if differ_at(a, b, m) {
-            return true;
-        }
-        if over_at(a, b, m, by[m]) {
-            return true;
-        }
-        m += 1;
-    }
-    false
+    (0..MASTERS).any(|m| differ_at(a, b, m) || over_at(a, b, m, by[m]))
 }

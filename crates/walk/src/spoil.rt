@@ -1,40 +1,24 @@
 // What spoils the sheet that two sheets are joined to: that one of them is spoiled, or one of the four reasons.
-ghost use Rattle.rules.specs.Sheet.{sheet_in};
-ghost use Rattle.walk.specs.Walk.{TwoSheets, JoinsTo};
+ghost use Rattle.sheets.specs.Views.{sheet_of};
+ghost use Rattle.walk.specs.Walk.{JoinsTo};
 
 use crate::clash::clashes;
 use crate::notices::notices_spoil;
 use crate::tally::tally;
-use forms::is_spoiled;
+use forms::{MASTERS, Sheet};
 use rules::MAX_SETS;
 
-// What two sheets are joined to: a spoiled sheet, or a sound one of so many sets.
-#[derive(Clone, Copy)]
-pub enum Joint {
-    Spoiled,
-    Sound(usize),
-}
-
-pub fn joined_to(a: &[u8], b: &[u8]) -> Joint
-    requires { TwoSheets a.now b.now }
-    ensures { JoinsTo (sheet_in a.now) (sheet_in b.now) result }
+// Of how many sets the sheet is that two sheets are joined to, or none if it is spoiled.
+pub fn joined_to<'a>(a: &Sheet<'a>, b: &Sheet<'a>) -> Option<usize>
+    ensures { JoinsTo (sheet_of a.now) (sheet_of b.now) result }
 {
-    if is_spoiled(a) {
-        return Joint::Spoiled;
+    if a.is_spoiled() || b.is_spoiled() || clashes(a, b) {
+        return None;
     }
-    if is_spoiled(b) {
-        return Joint::Spoiled;
-    }
-    if clashes(a, b) {
-        return Joint::Spoiled;
-    }
-    let mut by = [0u8; 16];
+    let mut by = [0; MASTERS];
     let n = tally(a, b, &mut by);
-    if MAX_SETS < n {
-        return Joint::Spoiled;
+    if MAX_SETS < n || notices_spoil(a, b, &by) {
+        return None;
     }
-    if notices_spoil(a, b, &by) {
-        return Joint::Spoiled;
-    }
-    Joint::Sound(n)
+    Some(n)
 }

@@ -2,11 +2,12 @@
 -- is read back; runs of stores are one store.
 use Rattle.std.specs.Prelude.{◌≡◌, [], ◌∷◌, ◌++◌, ℕ, zero, suc, ◌+◌, ◌*◌, ◌/◌, ◌%◌, ◌^◌, ◌≤◌, ◌<◌, length, get_or, set, take, drop}
 use Rattle.std.proofs.Math.Path.{refl}
-use Rattle.std.proofs.Common.{sym, ap, ◌∙◌, zero-add, add-zero, suc-add, add-suc, add_assoc, mul-add, mul_assoc, one-mul, pow-suc, div-one, arith, lit<, length-set, length-take, length-drop, get_or-set_other, get_or-drop, drop-cons, take_all}
+use Rattle.std.proofs.Common.{sym, ap, ◌∙◌, append_assoc, drop-drop, zero-add, add-zero, suc-add, add-suc, add_assoc, mul-add, mul_assoc, one-mul, pow-suc, div-one, arith, lit<, length-set, length-take, length-drop, get_or-set_other, get_or-drop, drop-cons, take_all}
 use Rattle.std.proofs.Math.Nat.{pow-succ', div-div-eq-div-mul, one-le-pow}
 use Rattle.std.proofs.Math.Arith.{mod-mul}
 use Rattle.std.proofs.lemmas.List.Edits.{sets-eq}
 use Rattle.std.proofs.Math.Seq.{length-sets, get_or-set_same, paste}
+use borrow.Rule.Slice.PartMut.{put_mid}
 use Rattle.words.specs.Words.{Bytes, le, word, part, stored}
 
 -- ---- reading
@@ -155,3 +156,9 @@ unfolding stored part
 copied d at s from n h k =
     let m : length (take n (drop from s)) ≡ n = simp (length-take, length-drop) (omega arith) in
     sym (sets-eq (take n (drop from s)) d at (omega arith) ∙ ap (λ (x : ℕ). take at d ++ take n (drop from s) ++ drop (at + x) d) m)
+
+-- a part overwritten, as std's copies leave it, is a store
+pub part_stored : (l : Bytes) (at k : ℕ) (ys bs : Bytes) → ys ≡ bs → k ≡ length bs → at + k ≤ length l → put_mid at k l ys ≡ stored l at bs
+unfolding stored
+part_stored l at k ys bs e n h =
+    rw (e, n, drop-drop) (sym (append_assoc (take at l) bs (drop (at + length bs) l)) ∙ sym (sets-eq bs l at (omega arith)))

@@ -1,62 +1,74 @@
 // Little-endian words of 16, 32 and 64 bits in lent bytes, read and written at an offset, and a run of bytes copied.
-#![tactic(auto)]
+#![tactic(auto, using(crate::proofs::Stores::stores), unfolding(crate::specs::Words::word))]
 
-ghost use Rattle.std.specs.Prelude.{◌≡◌, ◌+◌, ◌≤◌, length};
+ghost use Rattle.std.specs.Prelude.{◌≡◌, ℕ, ◌+◌, ◌≤◌, length};
 ghost use Rattle.words.specs.Words.{le, word, part, stored};
 
-pub fn get16(s: &[u8], at: usize) -> u16
-    requires { at + 2 ≤ length s.now }
-    ensures { result ≡ word 2 s.now at }
-{
-    (s[at] as u16) + 256 * (s[at + 1] as u16)
+// A number that stands in bytes, its lowest byte first. The bytes are a whole form's: a slice cut for each word would be no plainer than a place.
+// What is proved of words, for every width, stands in specs/WordLaws.
+pub trait Word {
+    // In how many bytes, and which number a value is.
+    ghost width: { ℕ };
+
+    ghost number: { Self → ℕ };
+
+    // The word whose bytes start at a place.
+    fn get(s: &[u8], at: usize) -> Self
+        requires { at + width ≤ length s.now }
+        ensures { number result ≡ word width s.now at };
+
+    // The word's bytes go to out, from a place on.
+    fn put(self, out: &mut [u8], at: usize)
+        requires { at + width ≤ length out.old }
+        ensures { out.new ≡ stored out.old at (le width (number self)) };
 }
 
-pub fn get32(s: &[u8], at: usize) -> u32
-    requires { at + 4 ≤ length s.now }
-    ensures { result ≡ word 4 s.now at }
-{
-    (get16(s, at) as u32) + 65536 * (get16(s, at + 2) as u32)
+impl Word for u16 {
+    ghost width = { 2 };
+
+    ghost number = { λ x. x };
+
+    fn get(s: &[u8], at: usize) -> u16 {
+        u16::from_le_bytes(s[at..at + 2].try_into().unwrap())
+    }
+
+    fn put(self, out: &mut [u8], at: usize) {
+        out[at..at + 2].copy_from_slice(&self.to_le_bytes());
+    }
 }
 
-pub fn get64(s: &[u8], at: usize) -> u64
-    requires { at + 8 ≤ length s.now }
-    ensures { result ≡ word 8 s.now at }
-{
-    (get32(s, at) as u64) + 4294967296 * (get32(s, at + 4) as u64)
+impl Word for u32 {
+    ghost width = { 4 };
+
+    ghost number = { λ x. x };
+
+    fn get(s: &[u8], at: usize) -> u32 {
+        u32::from_le_bytes(s[at..at + 4].try_into().unwrap())
+    }
+
+    fn put(self, out: &mut [u8], at: usize) {
+        out[at..at + 4].copy_from_slice(&self.to_le_bytes());
+    }
 }
 
-pub fn put16(out: &mut [u8], at: usize, x: u16)
-    requires { at + 2 ≤ length out.old }
-    ensures { out.new ≡ stored out.old at (le 2 x) }
-{
-    out[at] = (x % 256) as u8;
-    out[at + 1] = (x / 256) as u8;
+impl Word for u64 {
+    ghost width = { 8 };
+
+    ghost number = { λ x. x };
+
+    fn get(s: &[u8], at: usize) -> u64 {
+        u64::from_le_bytes(s[at..at + 8].try_into().unwrap())
+    }
+
+    fn put(self, out: &mut [u8], at: usize) {
+        out[at..at + 8].copy_from_slice(&self.to_le_bytes());
+    }
 }
 
-pub fn put32(out: &mut [u8], at: usize, x: u32)
-    requires { at + 4 ≤ length out.old }
-    ensures { out.new ≡ stored out.old at (le 4 x) }
-{
-    put16(out, at, (x % 65536) as u16);
-    put16(out, at + 2, (x / 65536) as u16);
-}
-
-pub fn put64(out: &mut [u8], at: usize, x: u64)
-    requires { at + 8 ≤ length out.old }
-    ensures { out.new ≡ stored out.old at (le 8 x) }
-{
-    put32(out, at, (x % 4294967296) as u32);
-    put32(out, at + 4, (x / 4294967296) as u32);
-}
-
-// The n bytes of src from `from` on go to out, from `at` on.
+// The n bytes of src from `from` on go to out, from `at` on: one name for what report and open_sets would write out with both ranges.
 pub fn copy(src: &[u8], from: usize, n: usize, out: &mut [u8], at: usize)
     requires { (from + n ≤ length src.now) × (at + n ≤ length out.old) }
     ensures { out.new ≡ stored out.old at (part src.now from n) }
 {
-    let mut i: usize = 0;
-    while i < n {
-        out[at + i] = src[from + i];
-        i += 1;
-    }
+    out[at..at + n].copy_from_slice(&src[from..from + n]);
 }

@@ -1,4 +1,4 @@
--- The sheet's length fits, and the number is the answer's.
+-- The sheet's length fits.
 use Rattle.std.proofs.Common.{arith}
 use Rattle.castorpedal.proofs.DeskKept.{offer_within}
 use Rattle.castorpedal.proofs.visits.castorpedal_desk_offer.Goals as goal

@@ -1,5 +1,5 @@
 -- Refused at the first test that fails.
-use Rattle.std.proofs.Common.{sym, ◌∙◌, eqb-true}
+use Rattle.std.proofs.Common.{sym, ◌∙◌}
 use Rattle.laws.specs.Meets.{refuses_closing}
 use Rattle.closing.proofs.CloseLaws.{alike, sheet_4, sheet_6, sheet_7, sheet_on}
 use Rattle.closing.proofs.epoch.close_sheet.Goals as goal
@@ -13,9 +13,6 @@ returns-then-is_spoiled c = refuses_closing _ _ _ _ (sheet_6 _ _ _ _ (sym c.foll
 pub returns-then-not-complete : goal.returns-then-not-complete
 returns-then-not-complete c = refuses_closing _ _ _ _
     (sheet_7 _ _ _ _ (sym c.follows.ensures ∙ c.if-not-follows.false) (sym c.is_spoiled.ensures ∙ c.if-is_spoiled.false) (sym c.complete.ensures ∙ c.if-not-complete.true))
-
-pub close_complete-requires : goal.close_complete-requires
-close_complete-requires c = (c.requires.0, c.requires.1, eqb-true _ _ (sym c.follows.ensures ∙ c.if-not-follows.false))
 
 pub returns : goal.returns
 returns c = alike

@@ -1,20 +1,15 @@
--- `notices_ok` tests one master's notice after another.
-use Rattle.std.proofs.Common.{arith, below_more}
-use Rattle.laws.specs.Says.{said_no, said_yes, fails, passes}
-use Rattle.examine.proofs.SheetTests.{notice_by_lem}
+-- Each master's notice, tested.
+use Rattle.std.proofs.Common.{◌+◌, ◌∙◌, get_or, rules, tests}
+use Rattle.std.proofs.lemmas.Iterator.{YieldsList-from_range}
+use Rattle.std.proofs.lemmas.Iterator.Search.{all_from_yields_List}
+use Rattle.words.specs.Words.{word}
+use Rattle.rules.specs.Sheet.{sound_notice}
+use Rattle.examine.proofs.SheetTests.{notices_by_lem}
 use Rattle.examine.proofs.sheet.notices_ok.Goals as goal
 
-pub loop-m-init : goal.loop-m-init
-loop-m-init c = (omega arith, λ k l. absurd (omega arith))
-
-pub returns-then-not-notice_ok : goal.returns-then-not-notice_ok
-returns-then-not-notice_ok c = let m = c.loop-m.m in
-    let ok = notice_by_lem c.args.b.now c.args.by.now m c.requires.1 (omega arith) c.notice_ok.ensures in
-    fails _ 16 m (omega arith) (said_no ok c.if-not-notice_ok.true-raw)
-
-pub loop-m-preserved : goal.loop-m-preserved
-loop-m-preserved c = let ok = notice_by_lem c.args.b.now c.args.by.now c.loop-m.m c.requires.1 (omega arith) c.notice_ok.ensures in
-    (omega arith, below_more _ _ c.loop-m.invariant.1 (said_yes ok c.if-not-notice_ok.false-raw))
-
 pub returns : goal.returns
-returns c = passes _ 16 c.loop-m.m (omega arith) c.loop-m.invariant.1
+returns c =
+    let b = c.args.sheet.now.bytes.now in
+    let by = c.args.by.now in
+    all_from_yields_List (λ m. sound_notice (word 2 b 4) m (get_or b (8 + m) 0) (get_or by m 0)) _ _ c.all.result c.all.ensures.ran (YieldsList-from_range 0 16 16 (search rules) (search rules)) (λ x r q k. search (rules, tests))
+    ∙ notices_by_lem b by c.requires

@@ -6,4 +6,4 @@ use Rattle.forms.proofs.verdict.set_verdict.Goals as goal
 
 pub returns : goal.returns
 unfolding verdict_in
-returns c n h = c.verdict_of.ensures ∙ ap (verdict_of _) c.get32.ensures ∙ ap (verdict_in _) (sym (zero-add _)) ∙ sym (verdict_place_lem n _ 0 _ h)
+returns c n h = c.verdict_of.ensures ∙ ap (verdict_of _) c.get.ensures ∙ ap (verdict_in _) (sym (zero-add _)) ∙ sym (verdict_place_lem n _ 0 _ h)

@@ -1,14 +1,15 @@
--- After k turns the bodies of the first k sets are written.
-use Rattle.std.proofs.Common.{◌-◌, ◌≤◌, ◌≡◌, length, take}
-use Rattle.words.specs.Words.{stored}
-use Rattle.rules.specs.Sheet.{sheet_in, bodies}
+-- The bodies of the sets that are left are left.
+use Rattle.std.proofs.Common.{◌+◌, ◌≡◌, length}
+use Rattle.rules.specs.Sheet.{bodies}
 use Rattle.laws.specs.Joining.{together}
-use Rattle.sheets.specs.SheetReadings.{total, bodies_place}
-use Rattle.joining.proofs.Writing.{Passed}
+use Rattle.sheets.specs.SheetReadings.{total, bodies_place, record_place}
+use Rattle.sheets.specs.Views.{sheet_of}
+use Rattle.walk.specs.Views.{left_of}
+use Rattle.joining.proofs.Writing.{Filling}
 use Rattle.joining.proofs.held.put_bodies.Given as goal
 
 abbrev pub invariant-loop-k : goal.invariant-loop-k
-invariant-loop-k l = (Passed l.a l.b l.k l.p) × (l.k ≤ l.n) × (l.first ≡ total (take l.k (together (sheet_in l.a) (sheet_in l.b)))) × (length l.out ≡ length l.initial.out) × (l.out ≡ stored l.initial.out (bodies_place l.n) (bodies (take l.k (together (sheet_in l.a) (sheet_in l.b)))))
-
-abbrev pub decreases-loop-k : goal.decreases-loop-k
-decreases-loop-k l = l.n - l.k
+invariant-loop-k l =
+    let all = together (sheet_of l.a) (sheet_of l.b) in
+    let left = left_of l.walk in
+    (l.k + length left ≡ length all) × (l.first + total left ≡ total all) × Filling l.initial.out l.out (bodies_place l.n) (record_place l.n l.first) (bodies all) (bodies left)

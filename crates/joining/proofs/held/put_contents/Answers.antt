@@ -1,47 +1,31 @@
--- After k turns the entries of the first k sets are written.
-use Rattle.std.proofs.Common.{◌+◌, ◌<◌, ◌≡◌, refl, sym, ◌∙◌, ap, List, ◌++◌, arith, length, take, take_all}
-use Rattle.words.specs.Words.{Bytes, stored}
-use Rattle.words.specs.WordLaws.{nothing_stored}
-use Rattle.rules.specs.Sheet.{WriteSet, sheet_in, contents_from}
-use Rattle.laws.specs.SheetLaws.{contents_length}
-use Rattle.laws.specs.Joining.{together}
-use Rattle.sheets.specs.SheetReadings.{total, contents_place, entry_place}
-use Rattle.walk.specs.Walks.{near}
-use Rattle.joining.proofs.Writing.{none_passed, still_ahead, fits_next, count-is, entry_is, one_passed, total_next, contents_next, one_more, as_long, take_few}
+-- One entry more is written, and its set is no more left.
+use Rattle.std.proofs.Common.{ap, arith, length}
+use Rattle.rules.specs.Sheet.{contents_from}
+use Rattle.sheets.specs.SheetReadings.{total}
+use Rattle.joining.proofs.Writing.{filled, entry_more, total_more, together_total}
 use Rattle.joining.proofs.held.put_contents.Goals as goal
 
-pub loop-k-init : goal.loop-k-init
-loop-k-init c = (none_passed _ _ c.requires.sheets, omega arith, unfold total in refl, refl, unfold contents_from in nothing_stored c.args.out.now contents_place)
-
-pub next_from-next-requires : goal.next_from-next-requires
-next_from-next-requires c = still_ahead _ _ _ _ c.loop-k.invariant.0 ((let more : c.loop-k.k < length ((together (sheet_in c.args.a.now) (sheet_in c.args.b.now))) = omega (arith, c.loop-k-test.true, c.requires.count) in more))
-
-pub next_entry-entry-requires : goal.next_entry-entry-requires
-next_entry-entry-requires c = (c.loop-k.invariant.0.at, c.next_from-next.ensures)
-
 pub put_entry-requires : goal.put_entry-requires
-put_entry-requires c = omega (arith, fits_next _ _ _ _ c.loop-k.invariant.0 ((let more : c.loop-k.k < length ((together (sheet_in c.args.a.now) (sheet_in c.args.b.now))) = omega (arith, c.loop-k-test.true, c.requires.count) in more)) (omega arith))
-
-pub advance-p-requires : goal.advance-p-requires
-advance-p-requires c = near _ _ _ c.loop-k.invariant.0.at
+put_entry-requires c =
+    let t = c.in-Some.ensures.steps in
+    (omega (arith, t, ap length t.0), omega (arith, total_more t.0, together_total c.args.a.now c.args.b.now))
 
 pub overflow_add-first : goal.overflow_add-first
-overflow_add-first c = omega (arith, fits_next _ _ _ _ c.loop-k.invariant.0 ((let more : c.loop-k.k < length ((together (sheet_in c.args.a.now) (sheet_in c.args.b.now))) = omega (arith, c.loop-k-test.true, c.requires.count) in more)) (omega arith))
+overflow_add-first c = omega (arith, total_more c.in-Some.ensures.steps.0, together_total c.args.a.now c.args.b.now)
 
 pub loop-k-preserved : goal.loop-k-preserved
-loop-k-preserved c = let k = c.loop-k.k in
-    let w = c.loop-k.invariant.0 in
-    let h = (let more : c.loop-k.k < length ((together (sheet_in c.args.a.now) (sheet_in c.args.b.now))) = omega (arith, c.loop-k-test.true, c.requires.count) in more) in
-    let q = c.put_entry.ensures in
-    let entry = entry_is _ _ _ _ w h _ _ c.next_entry-entry.ensures c.loop-k.invariant.2 in
-    let long : entry_place k ≡ contents_place + length (contents_from 0 (take k ((together (sheet_in c.args.a.now) (sheet_in c.args.b.now))))) = omega (arith, contents_length 0 (take k ((together (sheet_in c.args.a.now) (sheet_in c.args.b.now)))), take_few ((together (sheet_in c.args.a.now) (sheet_in c.args.b.now))) k (omega arith)) in (
-      one_passed _ _ _ _ w h c.next_from-next.ensures c.advance-p.ensures,
-      omega arith,
-      omega (arith, total_next ((together (sheet_in c.args.a.now) (sheet_in c.args.b.now))) k h, count-is _ _ _ _ w h),
-      as_long c.args.out.now _ _ _ _ q c.loop-k.invariant.3,
-      one_more c.args.out.now contents_place (entry_place k) (contents_from 0 (take k ((together (sheet_in c.args.a.now) (sheet_in c.args.b.now))))) _ _ c.loop-k.invariant.4 q long (contents_next ((together (sheet_in c.args.a.now) (sheet_in c.args.b.now))) k h ∙ ap (λ (x : Bytes). contents_from 0 (take k ((together (sheet_in c.args.a.now) (sheet_in c.args.b.now)))) ++ x) (sym entry)),
+loop-k-preserved c =
+    let t = c.in-Some.ensures.steps in
+    let s = rw t.1 at c.put_entry.ensures in (
+      omega (arith, t, ap length t.0),
+      omega (arith, total_more t.0),
+      entry_more _ _ c.loop-k.first _ _ _ c.loop-k.invariant.2 t.0 t.2 c.csn.ensures c.sen.ensures c.record_count-count.ensures s,
     )
 
-pub returns : goal.returns
-returns c = let all = take_all c.loop-k.k ((together (sheet_in c.args.a.now) (sheet_in c.args.b.now))) (omega arith) in
-    (c.loop-k.invariant.2 ∙ ap total all, c.loop-k.invariant.4 ∙ ap (λ (ws : List WriteSet). stored c.args.out.now contents_place (contents_from 0 ws)) all)
+pub returns-clause-records : goal.returns-clause-records
+unfolding total
+returns-clause-records c = omega (arith, ap total c.in-None.ensures.steps.0.0)
+
+pub returns-clause-contents : goal.returns-clause-contents
+unfolding contents_from
+returns-clause-contents c = filled c.loop-k.invariant.2 (ap (contents_from c.loop-k.first) c.in-None.ensures.steps.0.0)

@@ -4,8 +4,8 @@ use Rattle.joining.proofs.Writing.{together_total, held_written}
 use Rattle.joining.proofs.held.put_held.Goals as goal
 
 pub length_with-requires : goal.length_with-requires
-length_with-requires c = (c.requires.few, omega (arith, c.put_contents-records.ensures.0, c.requires.few, c.requires.count, together_total _ _ c.requires.sheets))
+length_with-requires c = (omega arith, omega (arith, together_total c.args.a.now c.args.b.now))
 
 pub returns : goal.returns
 returns c = rw c.length_with.ensures
-    (held_written _ _ c.args.out.now _ _ _ _ c.requires c.epoch.ensures c.roster.ensures c.put_contents-records.ensures.0 c.put_sheet_start.ensures c.put_notices.ensures c.put_contents-records.ensures.1 c.put_bodies.ensures)
+    (held_written c.args.a.now c.args.b.now c.args.out.now _ _ _ _ c.requires.room c.requires.count c.epoch.ensures c.roster.ensures c.put_contents-records.ensures.records c.put_sheet_start.ensures c.put_notices.ensures c.put_contents-records.ensures.contents c.put_bodies.ensures)

@@ -1,18 +1,20 @@
 -- A master outside the roster owes nothing; one in it owes a notice, and the sets that it says.
-use Rattle.std.proofs.Common.{sym, ◌∙◌, arith}
-use Rattle.laws.specs.Says.{yes_of, no_of, clash}
-use Rattle.judging.proofs.CompleteLaws.{owed_says}
+use Rattle.std.proofs.Common.{arith}
+use Rattle.std.proofs.lemmas.Bool.Decides.{nat_tests}
+use Rattle.rules.specs.Lists.{◌and◌, ◌or◌}
+use Rattle.rules.specs.Closing.{sent}
+use Rattle.sheets.specs.SheetReadings.{notice_at}
+use Rattle.judging.specs.Judged.{nothing_owed}
 use Rattle.judging.proofs.completeness.owes_nothing.Goals as goal
 
 pub returns-then-not-in_roster : goal.returns-then-not-in_roster
-returns-then-not-in_roster c = yes_of (owed_says _ _) (λ h. absurd (clash h (sym c.in_roster.ensures ∙ c.if-not-in_roster.true)))
+unfolding nothing_owed ◌and◌ ◌or◌
+returns-then-not-in_roster c = grind (arith, nat_tests)
 
 pub returns-then-said : goal.returns-then-said
-returns-then-said c = no_of (owed_says _ _) (λ f. (f (sym c.in_roster.ensures ∙ c.if-not-in_roster.false)).0 (sym c.notice-said.ensures ∙ c.if-said.true))
+unfolding nothing_owed sent notice_at ◌and◌ ◌or◌
+returns-then-said c = grind (arith, nat_tests)
 
-pub returns-then-sets_by-said : goal.returns-then-sets_by-said
-returns-then-sets_by-said c = no_of (owed_says _ _)
-    (λ f. absurd (omega (arith, (f (sym c.in_roster.ensures ∙ c.if-not-in_roster.false)).1)))
-
-pub returns : goal.returns
-returns c = yes_of (owed_says _ _) (λ h. (λ e. c.if-said.false (c.notice-said.ensures ∙ e), omega arith))
+pub returns-else-said : goal.returns-else-said
+unfolding nothing_owed sent notice_at ◌and◌ ◌or◌
+returns-else-said c = grind (arith, nat_tests)

@@ -1,30 +1,22 @@
--- No record before record j has the key.
-use Rattle.std.proofs.Common.{refl, sym, ◌∙◌, ap, arith, rules, eq-eqb, ne_eqb}
-use Rattle.rules.specs.Sheet.{record_key}
+-- The records are looked at in their order.
+use Rattle.std.proofs.Common.{◌∙◌, sym, eqb, arith, rules, tests, length}
+use Rattle.std.proofs.lemmas.Iterator.{YieldsList-from_range, YieldsList-from_map}
+use Rattle.std.proofs.lemmas.Iterator.Adapters.{option_map_id}
+use Rattle.std.proofs.lemmas.Iterator.Search.{find_from_yields_List}
+use Rattle.rules.specs.declared.row.Record.{Record}
 use Rattle.rules.specs.Becoming.{applied_to}
-use Rattle.judging.specs.declared.recorded.Recorded.TheVariants.{As}
-use Rattle.judging.specs.Answers.{recorded}
-use Rattle.judging.proofs.Firsts.{skips, stops, ends}
+use Rattle.sheets.specs.SheetReadings.{record_at, no_record}
+use Rattle.sheets.specs.Views.{set_of}
+use Rattle.judging.proofs.Numbers.{found_places}
 use Rattle.judging.proofs.recorded.record_of.Goals as goal
 
-pub loop-j-init : goal.loop-j-init
-unfolding applied_to
-loop-j-init c = (omega arith, record { rest = refl })
-
-pub record-r-requires : goal.record-r-requires
-record-r-requires c = (search rules, search rules, omega arith)
-
-pub returns-then-r-key : goal.returns-then-r-key
-unfolding recorded
-returns-then-r-key c = let l = c.loop-j in
-    let e = c.record-r.ensures in
-    ap As e ∙ sym (ap recorded (stops l.invariant.1 (omega arith) (eq-eqb _ _ (sym (ap record_key e) ∙ c.if-r-key.true))))
-
-pub loop-j-preserved : goal.loop-j-preserved
-loop-j-preserved c = let l = c.loop-j in
-    let e = c.record-r.ensures in
-    (omega arith, skips l.invariant.1 (omega arith) (ne_eqb _ _ (λ q. c.if-r-key.false (ap record_key e ∙ q))))
-
 pub returns : goal.returns
-unfolding recorded
-returns c = let l = c.loop-j in sym (ap recorded (ends l.invariant.1 (omega arith)))
+unfolding applied_to record_at
+returns c =
+    let w = set_of c.args.set.now in
+    sym (option_map_id c.find.result)
+    ∙ find_from_yields_List (λ (r : Record). eqb r.key c.args.key) _ _ c.find.result c.find.ensures.ran
+    (YieldsList-from_map _ (record_at w) (YieldsList-from_range 0 c.record_count.result (length w.records) c.map.ensures.source (omega arith)) c.map.ensures.closure (λ x r q p. search (rules, tests)))
+    (λ x b q p. search (rules, tests))
+    ∙ found_places no_record (λ r. r) (λ r. eqb r.key c.args.key) w.records
+    ∙ option_map_id _

@@ -1,8 +1,7 @@
--- All sixteen bytes are copied.
-use Rattle.std.proofs.Common.{◌∙◌, ap}
-use Rattle.words.specs.Words.{stored}
-use Rattle.words.specs.WordLaws.{whole_part}
+-- The sixteen bytes between the first eight and the contents.
+use Rattle.std.proofs.Common.{sym, arith}
+use Rattle.words.specs.WordLaws.{part_stored}
 use Rattle.sheets.proofs.writing.put_notices.Goals as goal
 
 pub returns : goal.returns
-returns c = c.copy.ensures ∙ ap (stored c.args.out.now 8) (whole_part c.args.notices.now)
+returns c = part_stored _ 8 16 _ _ c.copy_from_slice.ensures.after (sym c.requires.1) (omega arith)

@@ -6,20 +6,17 @@ use Rattle.tags.proofs.writing.put_tag.Goals as goal
 pub loop-i-init : goal.loop-i-init
 loop-i-init c = write_start c.args.key c.args.out.now
 
-pub nonzero_div-d : goal.nonzero_div-d
-nonzero_div-d c = let a = c.args in
+pub nonzero_div-digit : goal.nonzero_div-digit
+nonzero_div-digit c = let a = c.args in
     let l = c.loop-i in
     omega (arith, some_weight a.key a.out.now l.out l.weight l.interim l.i l.invariant c.loop-i-test.true)
-
-pub next_digit-interim-requires : goal.next_digit-interim-requires
-next_digit-interim-requires c = (c.loop-i.invariant.1, omega arith)
 
 pub loop-i-preserved : goal.loop-i-preserved
 loop-i-preserved c = let a = c.args in
     let l = c.loop-i in
-    rw c.next_digit-interim.ensures (write_more a.key a.out.now l.out l.weight l.interim l.i l.invariant c.loop-i-test.true)
+    rw (c.next_digit-interim.ensures, c.from.ensures) (write_more a.key a.out.now l.out l.weight l.interim l.i l.invariant c.loop-i-test.true)
 
 pub returns : goal.returns
 returns c = let a = c.args in
     let l = c.loop-i in
-    write_last a.key a.out.now l.out l.weight l.interim l.i l.invariant c.loop-i-test.false
+    write_last a.key a.out.now l.out l.weight l.interim l.i l.invariant (omega arith)

@@ -1,10 +1,6 @@
 -- It writes the tag: what is written and what is still to come are always that tag.
-use Rattle.std.proofs.Common.{◌-◌}
 use Rattle.tags.proofs.WritingLaws.{Writing}
 use Rattle.tags.proofs.writing.put_tag.Given as goal
 
 abbrev pub invariant-loop-i : goal.invariant-loop-i
 invariant-loop-i l = Writing l.key l.initial.out l.out l.weight l.interim l.i
-
-abbrev pub decreases-loop-i : goal.decreases-loop-i
-decreases-loop-i l = 10 - l.i

@@ -1,15 +1,15 @@
 -- Two notices that are there and differ.
-use Rattle.std.proofs.Common.{eqb, ℕ, not, ap₂, ◌∙◌, arith}
-use Rattle.walk.proofs.Masters.{no_first, no_second, two_noticed}
-use Rattle.rules.specs.Sheet.{sheet_in}
+use Rattle.std.proofs.Common.{arith}
+use Rattle.std.proofs.lemmas.Bool.Decides.{nat_tests}
+use Rattle.rules.specs.Lists.{◌and◌}
+use Rattle.laws.specs.Joining.{notices_differ}
+use Rattle.sheets.specs.SheetReadings.{notice_at}
 use Rattle.walk.proofs.notices.differ_at.Goals as goal
 
-pub returns-then-x : goal.returns-then-x
-returns-then-x c = no_first (sheet_in c.args.a.now) (sheet_in c.args.b.now) c.args.m (omega arith)
-
 pub returns-then-y : goal.returns-then-y
-returns-then-y c = no_second (sheet_in c.args.a.now) (sheet_in c.args.b.now) c.args.m (λ e. c.if-x.false (c.notice-x.ensures ∙ e)) (omega arith)
+unfolding notices_differ notice_at ◌and◌
+returns-then-y c = grind (arith, nat_tests)
 
-pub returns : goal.returns
-returns c = ap₂ (λ (x y : ℕ). not (eqb x y)) c.notice-x.ensures c.notice-y.ensures
-    ∙ two_noticed (sheet_in c.args.a.now) (sheet_in c.args.b.now) c.args.m (λ e. c.if-x.false (c.notice-x.ensures ∙ e)) (λ e. c.if-y.false (c.notice-y.ensures ∙ e))
+pub returns-else-y : goal.returns-else-y
+unfolding notices_differ notice_at ◌and◌
+returns-else-y c = grind (arith, nat_tests)

@@ -1,12 +1,15 @@
 -- A notice that is there, and more sets than it says.
-use Rattle.std.proofs.Common.{ltb, ◌∙◌, ap₂, arith}
-use Rattle.rules.specs.Sheet.{sheet_in}
-use Rattle.walk.proofs.Masters.{none_noticed_lem, some_noticed}
+use Rattle.std.proofs.Common.{arith}
+use Rattle.std.proofs.lemmas.Bool.Decides.{nat_tests}
+use Rattle.rules.specs.Lists.{◌or◌}
+use Rattle.rules.specs.Sheet.{allows}
+use Rattle.laws.specs.Joining.{over_at}
 use Rattle.walk.proofs.notices.over_at.Goals as goal
 
 pub returns-then-x : goal.returns-then-x
-returns-then-x c = none_noticed_lem (sheet_in c.args.a.now) (sheet_in c.args.b.now) c.args.m (omega arith)
+unfolding over_at allows ◌or◌
+returns-then-x c = grind (arith, nat_tests)
 
-pub returns : goal.returns
-returns c = ap₂ ltb c.notice_together-x.ensures c.requires.2
-    ∙ some_noticed (sheet_in c.args.a.now) (sheet_in c.args.b.now) c.args.m (λ e. c.if-x.false (c.notice_together-x.ensures ∙ e))
+pub returns-else-x : goal.returns-else-x
+unfolding over_at allows ◌or◌
+returns-else-x c = grind (arith, nat_tests)
