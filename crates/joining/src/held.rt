@@ -47,7 +47,7 @@ fn put_bodies<'a>(a: &Sheet<'a>, b: &Sheet<'a>, n: usize, out: &mut [u8])
     let mut first = 0;
     for k in 0..n {
         let next = walk.next_from();
-        let body = next_body(&walk.a, walk.i, &walk.b, walk.j, next);
+        let body = next_body(&walk.a, walk.at.i, &walk.b, walk.at.j, next);
         put_body(out, n, first, body);
         first += offered_count(body);
         walk.pass(next);

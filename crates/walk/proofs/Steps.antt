@@ -1,9 +1,10 @@
 -- One step of the walk over two sheets: what is behind a place, and which set is next.
 use Rattle.std.specs.Prelude.{ℕ, ◌+◌, ◌-◌, ◌*◌, ◌<◌, ◌≤◌, ◌≡◌, refl, true, false, List, ◌∷◌, ◌++◌, length, get_or, drop, ltb}
 use mathlib.Core.List.Memᴰ
-use Rattle.std.proofs.Common.{sym, ◌∙◌, ap, ap₂, arith, add-one, drop-cons, length-append, length-drop, drop_of_length-le, lt-ltb, le-ltb}
+use Rattle.std.proofs.Common.{sym, ◌∙◌, ap, arith, length-append, length-drop, drop_of_length-le, lt-ltb, le-ltb}
 use Rattle.std.proofs.Math.Decide.{dec_lt}
-use Rattle.rules.specs.Sheet.{WriteSet, Sheet, max_sets}
+use Rattle.words.specs.Words.{Bytes}
+use Rattle.rules.specs.Sheet.{WriteSet, Sheet, max_sets, sheet_in}
 use Rattle.rules.specs.Gathering.{distinct, clash, some_two}
 use Rattle.laws.specs.Distinct.{Sorted, sheet_sorted, some_two_in}
 use Rattle.laws.specs.Merging.{drop_sorted, next_first, next_second, next_both, next_left, next_right, distinct_le, distinct_some, clash_first, clash_second, clash_both, clash_not, clash_left, clash_right}
@@ -16,15 +17,13 @@ use Rattle.sheets.specs.SheetSizes.{few_sets}
 use Rattle.sheets.specs.declared.next.Next.{Next}
 use Rattle.sheets.specs.Taking.{taken}
 use Rattle.sheets.specs.Views.{sheet_of}
+use Rattle.walk.specs.declared.place.Place.{Place}
 use Rattle.walk.specs.declared.walk.Walk as code
-use Rattle.walk.specs.Walk.{Place, unpassed, behind, next_at, passed, BothLeft, Advanced, Decided}
+use Rattle.walk.specs.Walk.{unpassed, behind, next_at, passed, At, BothLeft, Advanced, Decided}
+use Rattle.walk.specs.Walks.{from, moved}
 use Rattle.walk.specs.Views.{walk_place}
 
 -- ---- over lists
-
--- a list from set i on
-from : (xs : List WriteSet) (i : ℕ) → i < length xs → drop i xs ≡ get_or xs i no_set ∷ drop (i + 1) xs
-from xs i h = drop-cons xs i no_set h ∙ ap (λ (k : ℕ). get_or xs i no_set ∷ drop k xs) (sym (add-one i))
 
 module _ (xs ys : List WriteSet) (i j : ℕ) where
   left_length : length (drop i xs ++ drop j ys) ≡ (length xs - i) + (length ys - j)
@@ -86,22 +85,29 @@ abbrev place : ℕ → ℕ → Place
 place i j = record { i = i; j = j }
 
 -- a place in two sheets whose sets stand in csn order
-pub record At (a b : Sheet) (p : Place) : Type 0 where
+pub record Ordered (a b : Sheet) (p : Place) : Type 0 where
   pub one : Sorted a.sets
   pub two : Sorted b.sets
   pub first : p.i ≤ length a.sets
   pub second : p.j ≤ length b.sets
 
--- the place of a walk
-pub at : (w : code.Walk) → At (sheet_of w.a) (sheet_of w.b) (walk_place w)
-at w = record {
-  one = sheet_sorted (sheet_of w.a) (sheet_sound w.a.bytes.now w.a.examined);
-  two = sheet_sorted (sheet_of w.b) (sheet_sound w.b.bytes.now w.b.examined);
-  first = w.first;
-  second = w.second;
+-- examined ones do
+ordered : {a b : Bytes} {p : Place} → At a b p → Ordered (sheet_in a) (sheet_in b) p
+ordered {a} {b} k = record {
+  one = sheet_sorted (sheet_in a) (sheet_sound a k.one);
+  two = sheet_sorted (sheet_in b) (sheet_sound b k.two);
+  first = k.first;
+  second = k.second;
 }
 
-module _ (a b : Sheet) (p : Place) (k : At a b p) where
+-- the place of a walk
+pub walk_at : (w : code.Walk) → At w.a.bytes.now w.b.bytes.now (walk_place w)
+walk_at w = record { one = w.a.examined; two = w.b.examined; first = w.first; second = w.second }
+
+pub at : (w : code.Walk) → Ordered (sheet_of w.a) (sheet_of w.b) (walk_place w)
+at w = ordered (walk_at w)
+
+module _ (a b : Sheet) (p : Place) (k : Ordered a b p) where
   pub some_left : p.i < length a.sets → 0 < length (behind a b p)
   unfolding behind unpassed
   some_left h = distinct_some _ (omega (arith, left_length a.sets b.sets p.i p.j))
@@ -221,7 +227,7 @@ module _ (a b : Sheet) (p : Place) (k : At a b p) where
 
 -- clashes at a place
 
-module _ (a b : Sheet) (p : Place) (k : At a b p) where
+module _ (a b : Sheet) (p : Place) (k : Ordered a b p) where
   pub found_clash : BothLeft a b p → clash (set_at a p.i) (set_at b p.j) ≡ true → some_two clash (unpassed a b p) ≡ true
   unfolding unpassed set_at
   found_clash h e = part_found a.sets b.sets p.i p.j k.one k.two h.0 h.1 e
@@ -247,5 +253,5 @@ together_few a b =
     )
 
 -- passing the set that was decided on leaves the others
-pub left_passed : {a b : Sheet} {p q : Place} {n : Next} → Decided a b p n → passed p n ≡ q → behind a b p ≡ taken n (set_at a p.i) (set_at b p.j) ∷ behind a b q
-left_passed {a} {b} d e = d.passes.leaves ∙ ap₂ (λ (w : WriteSet) (ws : List WriteSet). w ∷ ws) d.next (ap (behind a b) e)
+pub left_passed : {a b : Sheet} {p q : Place} {n : Next} → Decided a b p n → q ≡ passed p n → behind a b p ≡ taken n (set_at a p.i) (set_at b p.j) ∷ behind a b q
+left_passed {a} {b} {p} {q} d e = (moved a b d e).leaves ∙ ap (λ (w : WriteSet). w ∷ behind a b q) d.next

@@ -1,2 +1,3 @@
 pub mod Views
 pub mod Walk
+pub mod Walks

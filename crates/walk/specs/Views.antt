@@ -3,12 +3,13 @@ use Rattle.std.specs.Prelude.{◌≡◌, List}
 use Rattle.rules.specs.Sheet.{WriteSet}
 use Rattle.sheets.specs.declared.sheet.Sheet as examined
 use Rattle.sheets.specs.Views.{sheet_of}
+use Rattle.walk.specs.declared.place.Place.{Place}
 use Rattle.walk.specs.declared.walk.Walk as code
-use Rattle.walk.specs.Walk.{Place, behind}
+use Rattle.walk.specs.Walk.{behind}
 
 -- how many sets of each sheet are passed
 abbrev pub walk_place : code.Walk → Place
-walk_place w = record { i = w.i; j = w.j }
+walk_place w = w.at
 
 -- the distinct sets of both that are left, in csn order
 abbrev pub left_of : code.Walk → List WriteSet

@@ -1,18 +1,15 @@
 -- Two sheets walked together, set by set in csn order, and master by master.
-use Rattle.std.specs.Prelude.{ℕ, ◌+◌, ◌≤◌, ◌<◌, ◌≡◌, Bool, false, List, ◌∷◌, ◌++◌, length, get_or, drop, Option, None, Some}
+use Rattle.std.specs.Prelude.{ℕ, ◌+◌, ◌≤◌, ◌<◌, ◌≡◌, Bool, true, false, List, ◌∷◌, ◌++◌, length, get_or, drop, Option, None, Some}
+use Rattle.words.specs.Words.{Bytes}
 use Rattle.rules.specs.Lists.{◌or◌}
-use Rattle.rules.specs.Sheet.{WriteSet, Sheet, max_sets, sets_of}
+use Rattle.rules.specs.Sheet.{WriteSet, Sheet, max_sets, sets_of, is_sheet, sheet_in}
 use Rattle.rules.specs.Gathering.{distinct, clash, some_two, spoiled_sheet, joined}
 use Rattle.laws.specs.Joining.{notices_differ, together, over_at, join_held}
 use Rattle.sheets.specs.declared.next.Next.{Next}
 use Rattle.sheets.specs.declared.next.Next.TheVariants as next
 use Rattle.sheets.specs.SheetReadings.{master_count, no_set, set_at}
 use Rattle.sheets.specs.Taking.{taken, Chosen}
-
--- a place in two sheets: how many sets of each are passed
-pub record Place : Type 0 where
-  pub i : ℕ
-  pub j : ℕ
+use Rattle.walk.specs.declared.place.Place.{Place}
 
 -- before all sets of both
 abbrev pub start : Place
@@ -42,6 +39,18 @@ Tallied a b by = (m : ℕ) → m < master_count → get_or by m 0 ≡ sets_of m 
 abbrev pub JoinsTo : Sheet → Sheet → Option ℕ → Type 0
 JoinsTo a b None = joined a b ≡ spoiled_sheet a.epoch a.roster
 JoinsTo a b (Some n) = (joined a b ≡ join_held a b) × (n ≡ length (together a b)) × (n ≤ max_sets)
+
+-- two examined sheets
+pub record TwoSheets (a b : Bytes) : Type 0 where
+  pub one : is_sheet a ≡ true
+  pub two : is_sheet b ≡ true
+
+-- a place in two examined sheets
+pub record At (a b : Bytes) (p : Place) : Type 0 where
+  pub one : is_sheet a ≡ true
+  pub two : is_sheet b ≡ true
+  pub first : p.i ≤ length (sheet_in a).sets
+  pub second : p.j ≤ length (sheet_in b).sets
 
 -- both sheets have a set behind it
 abbrev pub BothLeft : Sheet → Sheet → Place → Type 0

@@ -18,8 +18,8 @@ pub fn clashes<'a>(a: &Sheet<'a>, b: &Sheet<'a>) -> bool
 {
     // Not a `for` over the walk: it hands back one set a turn, and here the first of both sheets are compared.
     let mut walk = Walk::new(a, b);
-    while walk.i < walk.a.set_count() && walk.j < walk.b.set_count() {
-        if clash(&walk.a.set(walk.i), &walk.b.set(walk.j)) {
+    while walk.at.i < walk.a.set_count() && walk.at.j < walk.b.set_count() {
+        if clash(&walk.a.set(walk.at.i), &walk.b.set(walk.at.j)) {
             return true;
         }
         let next = walk.next_from();

@@ -3,10 +3,12 @@
 
 mod clash;
 mod notices;
+mod place;
 mod spoil;
 mod tally;
 mod walk;
 
 pub use notices::notice_together;
+pub use place::{Place, advance};
 pub use spoil::joined_to;
 pub use walk::Walk;

@@ -7,17 +7,17 @@ ghost use Rattle.sheets.specs.SheetReadings.{set_at};
 ghost use Rattle.sheets.specs.Taking.{taken};
 ghost use Rattle.sheets.specs.Views.{sheet_of, set_of};
 
+use crate::place::{Place, advance};
 use forms::{Next, Sheet, WriteSet, next_set};
 
-// A place in two sheets: so many sets of each are passed.
+// Two sheets, and a place in them.
 #[derive(Drop)]
 pub struct Walk<'a> {
     pub a: Sheet<'a>,
     pub b: Sheet<'a>,
-    pub i: usize,
-    pub j: usize,
-    ghost first: { i ≤ length (sheet_in a.bytes.now).sets },
-    ghost second: { j ≤ length (sheet_in b.bytes.now).sets },
+    pub at: Place,
+    ghost first: { at.i ≤ length (sheet_in a.bytes.now).sets },
+    ghost second: { at.j ≤ length (sheet_in b.bytes.now).sets },
 }
 
 impl<'a> Walk<'a> {
@@ -32,8 +32,7 @@ impl<'a> Walk<'a> {
         Walk {
             a: *a,
             b: *b,
-            i: 0,
-            j: 0,
+            at: Place { i: 0, j: 0 },
         }
     }
 
@@ -41,7 +40,7 @@ impl<'a> Walk<'a> {
     fn has_more(&self) -> bool
         ensures { result ≡ ltb 0 (length (left_of self.now)) }
     {
-        self.i < self.a.set_count() || self.j < self.b.set_count()
+        self.at.i < self.a.set_count() || self.at.j < self.b.set_count()
     }
 
     // The sheet with the smaller csn, or the one that has a set left.
@@ -49,15 +48,15 @@ impl<'a> Walk<'a> {
         requires { 0 < length (left_of self.now) }
         ensures { Decided (sheet_of self.now.a) (sheet_of self.now.b) (walk_place self.now) result }
     {
-        if self.j == self.b.set_count() {
+        if self.at.j == self.b.set_count() {
             return Next::First;
         }
-        if self.i == self.a.set_count() {
+        if self.at.i == self.a.set_count() {
             return Next::Second;
         }
         // By `x.cmp(&y)` putting a set in takes 7 instructions in a hundred more.
-        let x = self.a.set(self.i).csn();
-        let y = self.b.set(self.j).csn();
+        let x = self.a.set(self.at.i).csn();
+        let y = self.b.set(self.at.j).csn();
         if x < y {
             Next::First
         } else if y < x {
@@ -71,16 +70,9 @@ impl<'a> Walk<'a> {
     pub fn pass(&mut self, next: Next)
         requires { Decided (sheet_of self.old.a) (sheet_of self.old.b) (walk_place self.old) next }
         ensures stands { StandsAt self.old.a self.old.b (passed (walk_place self.old) next) self.new }
-        ensures leaves { left_of self.old ≡ taken next (set_at (sheet_of self.old.a) self.old.i) (set_at (sheet_of self.old.b) self.old.j) ∷ left_of self.new }
+        ensures leaves { left_of self.old ≡ taken next (set_at (sheet_of self.old.a) self.old.at.i) (set_at (sheet_of self.old.b) self.old.at.j) ∷ left_of self.new }
     {
-        match next {
-            Next::First => self.i += 1,
-            Next::Second => self.j += 1,
-            Next::Both => {
-                self.i += 1;
-                self.j += 1;
-            }
-        }
+        self.at = advance(self.at, next);
     }
 }
 
@@ -99,7 +91,7 @@ impl<'a> Iterator for Walk<'a> {
             return None;
         }
         let next = self.next_from();
-        let set = next_set(&self.a, self.i, &self.b, self.j, next);
+        let set = next_set(&self.a, self.at.i, &self.b, self.at.j, next);
         self.pass(next);
         Some(set)
     }
