@@ -23,11 +23,10 @@ use Rattle.laws.specs.OneOffer.{one_sound, put_joins}
 use Rattle.sheets.specs.SheetReadings.{master_count}
 use Rattle.sheets.specs.declared.sheet.Sheet as examined
 use Rattle.sheets.specs.Views.{sheet_of}
-use Rattle.gather.specs.OneSheet.{Joins}
+use Rattle.gather.specs.OneSheet.{Small, Joins}
 use Rattle.gather.specs.declared.offer.Offer as code
 use Rattle.gather.specs.declared.offer.Offer.TheVariants as offer
 use Rattle.gather.specs.Offers.{good_set, good_notice, good, master_in, offer_of, add_outcome}
-use Rattle.gather.proofs.OneLaws.{Small}
 
 -- ---- the tests
 

@@ -14,17 +14,10 @@ use Rattle.laws.specs.Tests.{left, right}
 use Rattle.laws.specs.FormLaws.{same→}
 use Rattle.laws.specs.SheetLaws.{records_length}
 use Rattle.laws.specs.GatherLaws.{notice_at_lem}
-use Rattle.laws.specs.Notices.{notice_by}
-use Rattle.laws.specs.NotRefused.{set_by}
 use Rattle.sheets.specs.SheetReadings.{master_count, notices_place, head_length, contents_place, entry_place, bodies_place, record_length, record_place, sheet_length, one_room, start_bytes, entry_bytes, total}
 use Rattle.sheets.specs.SheetSizes.{sheet_length_lem}
 use Rattle.sheets.specs.SheetWritten.{sheet_stored}
-
--- a small buffer that held `before` holds the sheet at its start, in which it has room, and n is the sheet's length
-pub record Small (s : Sheet) (before : Bytes) (n : ℕ) (after : Bytes) : Type 0 where
-  pub bytes : after ≡ stored before 0 (sheet_bytes s)
-  pub long : n ≡ length (sheet_bytes s)
-  pub fits : n ≤ length before
+use Rattle.gather.specs.OneSheet.{Small, of_set, of_notice}
 
 -- ---- one set
 
@@ -59,7 +52,8 @@ set_stored e r w b l₀ {l₁} {l₂} {l₃} {l₄} x p q s t =
     (t ∙ ap (stored l₃ (bodies_place 1)) (sym x ∙ sym (append-nil _)))
 
 pub set_held : (e r sen csn n : ℕ) (b l₀ : Bytes) {l₁ l₂ l₃ l₄ : Bytes} → length l₀ ≡ one_room → Offered b → n ≡ length (offered_records b) → l₁ ≡ stored l₀ 0 (start_bytes e r false 1) → l₂ ≡ stored l₁ notices_place no_notices
-    → l₃ ≡ stored l₂ (entry_place 0) (entry_bytes csn sen 0 n) → l₄ ≡ stored l₃ (record_place 1 0) b → Small (holding e r (a_set (set_by csn sen (offered_records b)) ∷ [])) l₀ (sheet_length 1 n) l₄
+    → l₃ ≡ stored l₂ (entry_place 0) (entry_bytes csn sen 0 n) → l₄ ≡ stored l₃ (record_place 1 0) b → Small (of_set e r sen csn b) l₀ (sheet_length 1 n) l₄
+unfolding of_set
 set_held e r sen csn n b l₀ {l₁} {l₂} {l₃} {l₄} room f h p q s t =
     let w : WriteSet = record { csn = csn; sen = sen; records = offered_records b } in
     let one = set_sheet e r w in
@@ -110,7 +104,8 @@ notice_stored e r ns l₀ {l₁} {l₂} h p q =
     (sheet_stored l₀ (sound_of e r ns []) h p q (nothing_stored l₂ contents_place) (nothing_stored l₂ (bodies_place 0)), sym (sheet_length_lem (sound_of e r ns []) h))
 
 pub notice_held : (e r m n : ℕ) (l₀ : Bytes) {l₁ l₂ : Bytes} → length l₀ ≡ one_room → m < master_count → n ≤ max_sets → l₁ ≡ stored l₀ 0 (start_bytes e r false 0) → l₂ ≡ stored l₁ notices_place (set no_notices m n)
-    → Small (holding e r (a_notice (notice_by m n) ∷ [])) l₀ head_length l₂
+    → Small (of_notice e r m n) l₀ head_length l₂
+unfolding of_notice
 notice_held e r m n l₀ {l₁} {l₂} room h k p q =
     let one : sound_of e r (set no_notices m n) [] ≡ holding e r (a_notice (record { master = m; number = n }) ∷ []) =
     ap (λ (ns : List ℕ). sound_of e r ns []) (notices_of m n h k) ∙ sym (notice_sheet e r m n) in

@@ -3,6 +3,7 @@
 
 mod adding;
 mod offer;
+mod one;
 mod opening;
 
 pub use adding::{notice, put};

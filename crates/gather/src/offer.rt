@@ -6,11 +6,9 @@ ghost use Rattle.sheets.specs.SheetReadings.{one_room};
 ghost use Rattle.sheets.specs.Views.{sheet_of};
 ghost use Rattle.gather.specs.OneSheet.{Joins};
 
-use forms::{
-    MASTERS, ONE_ROOM, Sheet, are_records, length_with, offered_count, put_body, put_entry,
-    put_no_notices, put_notices, put_sheet_start,
-};
-use rules::{MAX_NOTICE, NO_NOTICE};
+use crate::one::{one_notice, one_set};
+use forms::{ONE_ROOM, Sheet, are_records};
+use rules::MAX_NOTICE;
 
 // A set with its records' bytes, or how many sets a master noticed.
 #[derive(Clone, Copy)]
@@ -59,7 +57,7 @@ impl<'a> Offer<'a> {
         Sheet { bytes: &one[..n] }
     }
 
-    // Its length is handed back: of a set a head, one entry and its records, of a notice a head.
+    // Its length is handed back.
     fn put_alone(&self, sheet: &Sheet, one: &mut [u8]) -> usize
         requires good { good (sheet_of sheet.now).epoch self.now ≡ true }
         requires admitted { in_roster (sheet_of sheet.now).roster (master_in self.now) ≡ true }
@@ -69,21 +67,8 @@ impl<'a> Offer<'a> {
         let epoch = sheet.epoch();
         let roster = sheet.roster();
         match *self {
-            Offer::Set { sen, csn, records } => {
-                let n = offered_count(records);
-                put_sheet_start(one, epoch, roster, false, 1);
-                put_no_notices(one);
-                put_entry(one, 0, csn, sen, 0, n);
-                put_body(one, 1, 0, records);
-                length_with(1, n)
-            }
-            Offer::Notice { master, count } => {
-                let mut notices = [NO_NOTICE; MASTERS];
-                notices[master as usize] = count;
-                put_sheet_start(one, epoch, roster, false, 0);
-                put_notices(one, &notices);
-                length_with(0, 0)
-            }
+            Offer::Set { sen, csn, records } => one_set(one, epoch, roster, sen, csn, records),
+            Offer::Notice { master, count } => one_notice(one, epoch, roster, master, count),
         }
     }
 }
