@@ -11,9 +11,13 @@ use rules::{Mark, Record};
 pub fn record_of(set: &WriteSet, key: u32) -> Option<Record>
     ensures { result ≡ applied_to (set_of set.now).records key }
 {
-    (0..set.record_count())
-        .map(|j| set.record(j))
-        .find(|record| record.key == key)
+    for j in 0..set.record_count() {
+        let record = set.record(j);
+        if record.key == key {
+            return Some(record);
+        }
+    }
+    None
 }
 
 // The mark that a set of the sheet gives.

@@ -44,6 +44,7 @@ fn in_order(b: &[u8], i: usize, prev: u32, snapshot: u32) -> bool
 }
 
 // Whether the bytes are a register: the length, and each row.
+#[inline(never)]
 pub fn is_register(b: &[u8]) -> bool
     ensures { result ≡ is_register b.now }
 {

@@ -65,14 +65,15 @@ pub fn put_entry(out: &mut [u8], i: usize, csn: u64, sen: u32, first: usize, cou
     (count as u16).put(out, at + 14);
 }
 
-// A body, behind n entries and `first` records.
-#[tactic(auto, using(words::specs::WordLaws::part_stored))]
+// A body, behind n entries and `first` records. By a loop: copy_from_slice would have the archive ask its user for C's memmove.
 pub fn put_body(out: &mut [u8], n: usize, first: usize, body: &[u8])
     requires { (n ≤ max_sets) × (first ≤ max_total) × (record_place n first + length body.now ≤ length out.old) }
     ensures { out.new ≡ stored out.old (record_place n first) body.now }
 {
     let at = length_with(n, first);
-    out[at..at + body.len()].copy_from_slice(body);
+    for i in 0..body.len() {
+        out[at + i] = body[i];
+    }
 }
 
 // The length of a sheet of n sets that have so many records together.

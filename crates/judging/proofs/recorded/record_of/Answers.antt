@@ -1,22 +1,24 @@
--- The records are looked at in their order.
-use Rattle.std.proofs.Common.{◌∙◌, sym, eqb, arith, rules, tests, length}
-use Rattle.std.proofs.lemmas.Iterator.{YieldsList-from_range, YieldsList-from_map}
-use Rattle.std.proofs.lemmas.Iterator.Adapters.{option_map_id}
-use Rattle.std.proofs.lemmas.Iterator.Search.{find_from_yields_List}
-use Rattle.rules.specs.declared.row.Record.{Record}
+-- No record before record j has the key.
+use Rattle.std.proofs.Common.{refl, sym, ◌∙◌, ap, arith, eq-eqb, ne_eqb}
+use Rattle.std.specs.Prelude.{Some}
+use Rattle.rules.specs.Sheet.{record_key}
 use Rattle.rules.specs.Becoming.{applied_to}
-use Rattle.sheets.specs.SheetReadings.{record_at, no_record}
-use Rattle.sheets.specs.Views.{set_of}
-use Rattle.judging.proofs.Numbers.{found_places}
+use Rattle.judging.proofs.Firsts.{skips, stops, ends}
 use Rattle.judging.proofs.recorded.record_of.Goals as goal
 
+pub loop-j-init : goal.loop-j-init
+unfolding applied_to
+loop-j-init c = record { rest = refl }
+
+pub returns-then-record-key : goal.returns-then-record-key
+returns-then-record-key c = let l = c.loop-j in
+    let e = c.record-record.ensures in
+    ap Some e ∙ sym (stops l.invariant (omega arith) (eq-eqb _ _ (sym (ap record_key e) ∙ c.if-record-key.true)))
+
+pub loop-j-preserved : goal.loop-j-preserved
+loop-j-preserved c = let l = c.loop-j in
+    let e = c.record-record.ensures in
+    skips l.invariant (omega arith) (ne_eqb _ _ (λ q. c.if-record-key.false (ap record_key e ∙ q)))
+
 pub returns : goal.returns
-unfolding applied_to record_at
-returns c =
-    let w = set_of c.args.set.now in
-    sym (option_map_id c.find.result)
-    ∙ find_from_yields_List (λ (r : Record). eqb r.key c.args.key) _ _ c.find.result c.find.ensures.ran
-    (YieldsList-from_map _ (record_at w) (YieldsList-from_range 0 c.record_count.result (length w.records) c.map.ensures.source (omega arith)) c.map.ensures.closure (λ x r q p. search (rules, tests)))
-    (λ x b q p. search (rules, tests))
-    ∙ found_places no_record (λ r. r) (λ r. eqb r.key c.args.key) w.records
-    ∙ option_map_id _
+returns c = let l = c.loop-j in sym (ends l.invariant (omega arith))
