@@ -1,5 +1,5 @@
 -- THE AUDITOR'S PAGE. The three demands that every part is marked by, and the visit desk: a field for each sentence, in order; the values that prove them
--- are proofs/Demands.antt. What an operation does is its outcome (`rules` `Err`), and what its code ensures of its answer and of every lent byte is
+-- are proofs/Demands.antt. What an operation does is its outcome (`rules` `Refused`), and what its code ensures of its answer and of every lent byte is
 -- its promise of that outcome (`rules` `Promises`).
 use Rattle.std.specs.Prelude.{ℕ, suc, ◌<◌, ◌≤◌, ◌≡◌, ◌⊎◌, true, false, length, get_or, set, take, drop, None, Some, Ok, Err}
 use mathlib.Core.List.{List, [], Memᴰ, Permᴰ}

@@ -43,7 +43,8 @@ fn in_order(b: &[u8], i: usize, prev: u32, snapshot: u32) -> bool
     prev < u32::get(b, at) && cen <= snapshot && u32::get(b, at + 16) <= cen
 }
 
-// Whether the bytes are a register: the length, and each row.
+// Whether the bytes are a register: the length, and each row. Not taken into its callers: there the jumps out of the loop became long ones,
+// and a full register took 1.38 times as long.
 #[inline(never)]
 pub fn is_register(b: &[u8]) -> bool
     ensures { result ≡ is_register b.now }
