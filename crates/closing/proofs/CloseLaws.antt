@@ -23,7 +23,8 @@ use Rattle.laws.specs.SheetLaws.{sheet_read, sheet_unread}
 use Rattle.laws.specs.VerdictLength.{verdicts_long}
 use Rattle.forms.specs.VerdictForm.{verdicts_length}
 use Rattle.registers.specs.declared.writing.Draft.{Draft}
-use Rattle.registers.specs.RegisterWriting.{register_length, RowsPut, RowsAdded}
+use Rattle.registers.specs.declared.writing.Writing.{Writing}
+use Rattle.registers.specs.RegisterWriting.{register_length, RowsPut, RowsWritten}
 use Rattle.registers.specs.RegisterWritten.{length_fits, register_long, finished}
 use Rattle.closing.specs.Outcome.{close_complete, NextStands}
 
@@ -87,19 +88,20 @@ module _ (g : Register) (s : Sheet) (n m : ℕ) where
 -- ---- what is written
 
 -- the draft that was begun has the next rows left to put
-pub next_fits : (rows : List Row) {before : Bytes} {d : Draft} {snap : ℕ} → d.rows ≡ length rows → RowsPut snap [] before d → d.put + length rows ≤ d.rows
+pub next_fits : (rows : List Row) {before after : Bytes} {d : Draft} {snap : ℕ} → d.rows ≡ length rows → RowsPut snap [] before d after → d.put + length rows ≤ d.rows
 next_fits rows n p = omega (arith, n, p.put)
 
 -- once its rows are put the next register stands, and it is as long as its draft says
-pub next_stands : (snapshot : ℕ) (rows : List Row) → length rows ≤ max_rows → {before after : Bytes} {d e : Draft} {snap : ℕ} → snap ≡ snapshot
-    → register_room ≤ length before → d.rows ≡ length rows → RowsPut snap [] before d → RowsAdded rows d e → after ≡ e.out.now → {r : ℕ} → r ≡ register_length e.rows
+pub next_stands : (snapshot : ℕ) (rows : List Row) → length rows ≤ max_rows → {before after : Bytes} {v w : Writing} {snap : ℕ} → snap ≡ snapshot
+    → register_room ≤ length before → v.draft.rows ≡ length rows → RowsPut snap [] before v.draft v.out.now → RowsWritten rows v w
+    → after ≡ w.out.now → {r : ℕ} → r ≡ register_length w.draft.rows
     → NextStands (record { snapshot = snapshot; rows = rows }) before r after
-next_stands snapshot rows few {before} {e = e} epoch room n p q left long =
+next_stands snapshot rows few {before} {w = w} epoch room n p q left long =
     let g : Register = record { snapshot = snapshot; rows = rows } in
-    let many : e.rows ≡ length rows = q.same ∙ n in
-    let wide : register_length e.rows ≤ length before = rw many (omega (arith, length_fits (length rows) few)) in
+    let many : w.draft.rows ≡ length rows = q.added.same ∙ n in
+    let wide : register_length w.draft.rows ≤ length before = rw many (omega (arith, length_fits (length rows) few)) in
     record {
-      bytes = left ∙ finished g many wide (rw epoch at (q.behind _ [] before p));
+      bytes = left ∙ finished g many wide (rw epoch at (q.added.behind _ [] before p));
       long = long ∙ ap register_length many ∙ sym (register_long g);
     }
 

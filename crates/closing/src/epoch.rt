@@ -7,7 +7,7 @@ ghost use Rattle.sheets.specs.Views.{sheet_of};
 ghost use Rattle.closing.specs.Outcome.{close_complete};
 
 use crate::verdicts::put_verdicts;
-use forms::{Draft, Register, Sheet, verdicts_length};
+use forms::{Register, Sheet, Writing, verdicts_length};
 use judging::{Committed, Judged, complete};
 use next_rows::Committing;
 use rules::{Closed, MAX_ROWS, REGISTER_ROOM, Refusal, VERDICT_ROOM};
@@ -44,9 +44,9 @@ fn close_complete<'a>(
     if next.len() < REGISTER_ROOM || verdicts.len() < VERDICT_ROOM {
         return Err(Refusal::BufferShort);
     }
-    let mut draft = Draft::start(next, sheet.epoch(), n);
-    committing.put_rows(&mut draft);
-    let length = draft.finish();
+    let mut writing = Writing::start(next, sheet.epoch(), n);
+    committing.put_rows(&mut writing);
+    let length = writing.finish();
     put_verdicts(&judged, verdicts);
     Ok(Closed {
         register: length,

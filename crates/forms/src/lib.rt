@@ -4,7 +4,7 @@
 mod verdict;
 
 pub use examine::{are_records, count_set, is_sheet, offered_count};
-pub use registers::{Draft, REGISTER_HEAD, Register, is_register, register_length};
+pub use registers::{Draft, REGISTER_HEAD, Register, Writing, is_register, register_length};
 pub use sheets::{
     MASTERS, Next, ONE_ROOM, SHEET_HEAD, Sheet, WriteSet, contents_length, length_with, next_body,
     next_set, put_body, put_entry, put_no_notices, put_notice, put_notices, put_sheet_start,

@@ -17,8 +17,8 @@ use Rattle.laws.specs.Choice.{Choice}
 use Rattle.laws.specs.Applied.{applied_to→}
 use Rattle.laws.specs.NextRows.{gone, remains}
 use Rattle.laws.specs.NextCount.{next_count}
-use Rattle.registers.specs.declared.writing.Draft.{Draft}
-use Rattle.registers.specs.RegisterWriting.{RowsAdded}
+use Rattle.registers.specs.declared.writing.Writing.{Writing}
+use Rattle.registers.specs.RegisterWriting.{RowsWritten}
 use Rattle.judging.specs.declared.committed.Write.{Write}
 use Rattle.judging.specs.Answers.{AppliesTo}
 use Rattle.judging.specs.Judged.{of_kind}
@@ -53,14 +53,14 @@ module _ (s : Sheet) (c : List WriteSet) where
 
   -- ---- what is put of an insert
 
-  module _ (k : ℕ) {d : Draft} where
-    pub insert_added : {d' : Draft} (e : Write) → AppliesTo s c k (Some e) → {x : Row} → x ≡ written e.record e.mark → RowsAdded (x ∷ []) d d'
-        → RowsAdded (inserted_rows s c k) d d'
+  module _ (k : ℕ) {v : Writing} where
+    pub insert_added : {w : Writing} (e : Write) → AppliesTo s c k (Some e) → {x : Row} → x ≡ written e.record e.mark → RowsWritten (x ∷ []) v w
+        → RowsWritten (inserted_rows s c k) v w
     unfolding inserted_row
-    insert_added e a w h =
+    insert_added e a m h =
         let is_key : e.record.key ≡ k = (applied_to→ (applied c) k e.record a.0).1 in
         let marked : mark_after s c e.record.key fresh ≡ e.mark = ap (λ (j : ℕ). mark_after s c j fresh) is_key ∙ mark_is k fresh a.1 in
-        rw a.0 (rw (w ∙ (λ i. record { key = e.record.key; value = e.record.value; mark = sym marked i })) at h)
+        rw a.0 (rw (m ∙ (λ i. record { key = e.record.key; value = e.record.value; mark = sym marked i })) at h)
 
 -- ---- how many rows there are
 

@@ -1,12 +1,12 @@
 // The rows of the next register, put in the order of their keys: the old ones that remain, and those that committed sets insert.
 ghost use Rattle.std.specs.Prelude.{◌≡◌, ◌+◌, ◌≤◌, ◌<◌, length};
-ghost use Rattle.registers.specs.RegisterWriting.{RowsAdded};
+ghost use Rattle.registers.specs.RegisterWriting.{RowsWritten};
 ghost use Rattle.registers.specs.Views.{register_of};
 ghost use Rattle.sheets.specs.Views.{sheet_of};
 ghost use Rattle.judging.specs.Views.{sets_of};
 
 use crate::becoming::{becomes, inserted};
-use forms::{Draft, Register};
+use forms::{Register, Writing};
 use judging::Committed;
 use rules::Kind;
 
@@ -40,10 +40,10 @@ impl<'a> Committing<'a> {
     }
 
     // Row i of the old register, if it remains.
-    fn put_old(&self, i: usize, next: &mut Draft)
+    fn put_old(&self, i: usize, next: &mut Writing)
         requires within { i < length (register_of self.now.register).rows }
-        requires room { next.old.put + length (becomes self.now i) ≤ next.old.rows }
-        ensures { RowsAdded (becomes self.now i) next.old next.new }
+        requires room { next.old.draft.put + length (becomes self.now i) ≤ next.old.draft.rows }
+        ensures { RowsWritten (becomes self.now i) next.old next.new }
     {
         if let Some(row) = becomes(&self.committed, self.register.row(i)) {
             next.put(row);
@@ -51,9 +51,9 @@ impl<'a> Committing<'a> {
     }
 
     // The row of the committed insert of a key, if there is one.
-    fn put_insert(&self, key: u32, next: &mut Draft)
-        requires { next.old.put < next.old.rows }
-        ensures { RowsAdded (inserted_rows (sheet_of self.now.committed.sheet) (sets_of self.now.committed) key) next.old next.new }
+    fn put_insert(&self, key: u32, next: &mut Writing)
+        requires { next.old.draft.put < next.old.draft.rows }
+        ensures { RowsWritten (inserted_rows (sheet_of self.now.committed.sheet) (sets_of self.now.committed) key) next.old next.new }
     {
         if let Some(insert) = self.committed.applied(key) {
             next.put(inserted(insert));
@@ -73,11 +73,11 @@ impl<'a> Committing<'a> {
         }
     }
 
-    // All rows, behind those of the draft. The index goes on at an old row alone, so it is no `for`'s.
-    pub fn put_rows(&self, next: &mut Draft)
+    // All rows, behind those that are put. The index goes on at an old row alone, so it is no `for`'s.
+    pub fn put_rows(&self, next: &mut Writing)
         requires chosen { IsChosen self.now }
-        requires room { next.old.put + length (rows_next self.now) ≤ next.old.rows }
-        ensures { RowsAdded (rows_next self.now) next.old next.new }
+        requires room { next.old.draft.put + length (rows_next self.now) ≤ next.old.draft.rows }
+        ensures { RowsWritten (rows_next self.now) next.old next.new }
     {
         let mut i = 0;
         let mut insert = self.committed.next_insert(0);

@@ -35,7 +35,7 @@ unfolding register_head
 head_length_lem s n = simp (length-append, le_length)
 
 -- the draft that was begun has no row yet
-pub started : (l₀ : Bytes) {l₁ : Bytes} (s : ℕ) (d : Draft) → d.put ≡ 0 → l₁ ≡ stored l₀ 0 (le 4 s) → d.out.now ≡ stored l₁ 4 (le 4 d.rows) → RowsPut s [] l₀ d
+pub started : (l₀ : Bytes) {l₁ l₂ : Bytes} (s : ℕ) (d : Draft) → d.put ≡ 0 → l₁ ≡ stored l₀ 0 (le 4 s) → l₂ ≡ stored l₁ 4 (le 4 d.rows) → RowsPut s [] l₀ d l₂
 unfolding register_head flat
 started l₀ {l₁} s d z p q =
     record {
@@ -45,13 +45,14 @@ started l₀ {l₁} s d z p q =
     }
 
 -- a row stored behind those that stand is put
-pub row_added : (d e : Draft) (r : Row) → e.out.ghost_name ≡ d.out.ghost_name → e.rows ≡ d.rows → e.put ≡ d.put + 1 → e.out.now ≡ stored d.out.now (place_of d.put) (row_bytes r) → RowsAdded (r ∷ []) d e
-row_added d e r o n k q = record { lent = o; same = n; put = k; long = long; behind = behind }
+pub row_added : (d e : Draft) (l : Bytes) {m : Bytes} (r : Row) → e.rows ≡ d.rows → e.put ≡ d.put + 1 → m ≡ stored l (place_of d.put) (row_bytes r)
+    → RowsAdded (r ∷ []) d l e m
+row_added d e l {m} r n k q = record { same = n; put = k; long = long; behind = behind }
   where
-    long : length e.out.now ≡ length d.out.now
-    long = ap length q ∙ length_stored d.out.now (place_of d.put) (row_bytes r)
+    long : length m ≡ length l
+    long = ap length q ∙ length_stored l (place_of d.put) (row_bytes r)
 
-    behind : (s : ℕ) (rs : List Row) (before : Bytes) → RowsPut s rs before d → RowsPut s (rs ++ r ∷ []) before e
+    behind : (s : ℕ) (rs : List Row) (before : Bytes) → RowsPut s rs before d l → RowsPut s (rs ++ r ∷ []) before e m
     behind s rs before p =
         let x = register_head s d.rows ++ flat row_bytes rs in
         let there : place_of d.put ≡ 0 + length x = simp (length-append, head_length_lem, rows_length) (omega (arith, p.put)) in

@@ -5,4 +5,4 @@ mod register;
 mod writing;
 
 pub use register::{REGISTER_HEAD, Register, is_register, register_length};
-pub use writing::Draft;
+pub use writing::{Draft, Writing};

@@ -9,50 +9,65 @@ use crate::register::place_of;
 use rules::Row;
 use words::Word;
 
-// A register that is being written: the buffer, which has room for it, how many rows it is to have, and how many are put.
-pub struct Draft<'a> {
-    pub out: &'a mut [u8],
+// A register that is being written: how many rows it is to have, and how many are put.
+#[derive(Clone, Copy)]
+pub struct Draft {
     pub rows: usize,
     pub put: usize,
-    ghost few: { rows ≤ max_rows },
-    ghost room: { register_length rows ≤ length out.now },
+}
+
+impl Draft {
+    // The length of the register, once all its rows are put.
+    #[tactic(auto, unfolding(crate::specs::RegisterForm::register_length))]
+    pub fn finish(self) -> usize
+        requires { self.rows ≤ max_rows }
+        ensures { result ≡ register_length self.rows }
+    {
+        place_of(self.rows)
+    }
+}
+
+// A draft and the buffer that is lent for it, which has room for the register.
+#[derive(Drop)]
+pub struct Writing<'a> {
+    pub out: &'a mut [u8],
+    pub draft: Draft,
+    ghost few: { draft.rows ≤ max_rows },
+    ghost room: { register_length draft.rows ≤ length out.now },
 }
 
 #[tactic(auto, unfolding(crate::specs::RegisterForm::register_length))]
-impl<'a> Draft<'a> {
-    ghost use Rattle.registers.specs.RegisterWriting.{RowsPut, RowsAdded};
+impl<'a> Writing<'a> {
+    ghost use Rattle.registers.specs.RegisterWriting.{RowsPut, RowsWritten};
 
     // A register of so many rows is begun: its head.
-    pub fn start(out: &'a mut [u8], snapshot: u32, rows: usize) -> Draft<'a>
+    pub fn start(out: &'a mut [u8], snapshot: u32, rows: usize) -> Writing<'a>
         requires { (rows ≤ max_rows) × (register_length rows ≤ length out.old) }
         ensures lent { result.out.ghost_name ≡ out.entry.ghost_name }
-        ensures begun { (result.rows ≡ rows) × RowsPut snapshot [] out.old result }
+        ensures begun { (result.draft.rows ≡ rows) × RowsPut snapshot [] out.old result.draft result.out.now }
     {
         snapshot.put(out, 0);
         (rows as u32).put(out, 4);
-        Draft { out, rows, put: 0 }
+        let draft = Draft { rows, put: 0 };
+        Writing { out, draft }
     }
 
     // One row more.
     pub fn put(&mut self, row: Row)
-        requires { self.old.put < self.old.rows }
-        ensures { RowsAdded (row ∷ []) self.old self.new }
+        requires { self.old.draft.put < self.old.draft.rows }
+        ensures { RowsWritten (row ∷ []) self.old self.new }
     {
-        store_row(self.out, place_of(self.put), row);
-        self.put += 1;
+        store_row(self.out, place_of(self.draft.put), row);
+        self.draft.put += 1;
     }
 
     // The length of the register, once all its rows are put.
     pub fn finish(self) -> usize
         ensures stands { self.exit.0.now ≡ self.entry.out.now }
-        ensures long { result ≡ register_length self.entry.rows }
+        ensures long { result ≡ register_length self.entry.draft.rows }
     {
-        let Draft {
-            out: _,
-            rows,
-            put: _,
-        } = self;
-        place_of(rows)
+        let Writing { out: _, draft } = self;
+        draft.finish()
     }
 }
 

@@ -1,5 +1,5 @@
 // The parts of a sheet, each written exact on every byte. A part asks for the room of its own bytes alone: a type that held the buffer,
-// as a register's Draft does, would ask for the whole sheet's room before any part is written.
+// as a register's Writing does, would ask for the whole sheet's room before any part is written.
 ghost use Rattle.std.specs.Prelude.{◌≡◌, ◌∷◌, [], ◌+◌, ◌≤◌, ◌<◌, length};
 ghost use Rattle.words.specs.Words.{stored};
 ghost use Rattle.rules.specs.Sheet.{max_sets, state_byte};

@@ -27,19 +27,19 @@ returns-then-next-lt-REGISTER_ROOM c =
           refuses_closing _ _ _ _ (complete_9_verdicts _ _ _ _ (omega (arith, counted)) (omega arith) (omega arith))
     ]
 
-pub start-draft-requires : goal.start-draft-requires
-start-draft-requires c = let few = c.if-n-gt-MAX_ROWS.false in (few, omega (arith, length_fits _ few))
+pub start-writing-requires : goal.start-writing-requires
+start-writing-requires c = let few = c.if-n-gt-MAX_ROWS.false in (few, omega (arith, length_fits _ few))
 
 pub put_rows-requires-clause-chosen : goal.put_rows-requires-clause-chosen
 put_rows-requires-clause-chosen c = let j = c.new-judged in committing j.result j.ensures.register j.ensures.sheet
 
 pub put_rows-requires-clause-room : goal.put_rows-requires-clause-room
-put_rows-requires-clause-room c = let e = c.start-draft.ensures.begun in next_fits _ (e.0 ∙ c.next_count-n.ensures) e.1
+put_rows-requires-clause-room c = let e = c.start-writing.ensures.begun in next_fits _ (e.0 ∙ c.next_count-n.ensures) e.1
 
 pub returns : goal.returns
 returns c =
     let j = c.new-judged in
-    let e = c.start-draft.ensures.begun in
+    let e = c.start-writing.ensures.begun in
     let few = rw c.next_count-n.ensures at c.if-n-gt-MAX_ROWS.false in
     closes _ _ (closing_rows j.result j.ensures.register j.ensures.sheet) few c.args.next.now c.args.verdicts.now _ _ c.if-next-lt-REGISTER_ROOM.false c.if-verdicts-lt-VERDICT_ROOM.false
     (next_stands _ _ few (c.epoch.ensures ∙ c.requires) c.if-next-lt-REGISTER_ROOM.false (e.0 ∙ c.next_count-n.ensures) e.1 c.put_rows.ensures (search rules) c.finish-length.ensures.long)
