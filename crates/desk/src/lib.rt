@@ -1,8 +1,11 @@
-// The visit desk: a record entered into the open set, and the open set offered to the depot's sheet. Both are lent the open set.
+// The visit desk: a record entered into the open set, and the open set offered to the depot's sheet. The work is done by value; the functions
+// that are lent the open set stand on it.
 #![tactic(auto)]
 
 mod entering;
+mod lent;
 mod offering;
 
-pub use entering::enter;
-pub use offering::offer;
+pub use entering::{Entering, entered};
+pub use lent::{enter, offer};
+pub use offering::{Offering, offered};
