@@ -9,7 +9,6 @@ use cases::{
 use desk_cases::{run_enter, run_offer, run_tag};
 use read_cases::{run_check, run_list};
 use std::fs::File;
-use std::io;
 use std::io::Read;
 use words::Word;
 
@@ -42,14 +41,14 @@ struct Case<'a> {
 
 impl Case<'_> {
     // The operation that the head names. Each number is met here alone, beside what it names.
-    fn run(&self, rt: &impl Print, out: &mut [u8], verdicts: &mut [u8]) -> io::Result<()> {
+    fn run(&self, rt: &impl Print, out: &mut [u8], verdicts: &mut [u8]) {
         let Case {
             head,
             first,
             second,
             third,
         } = *self;
-        match head[OPERATION] {
+        let _ = match head[OPERATION] {
             1 => rt.print(run_open(head, out)),
             2 => rt.print(run_put(head, first, second, out)),
             3 => rt.print(run_notice(head, first, out)),
@@ -60,21 +59,21 @@ impl Case<'_> {
             8 => rt.print(run_enter(head, first, second)),
             9 => rt.print(run_offer(head, first, second, out)),
             _ => rt.print(run_tag(head, out)),
-        }
+        };
     }
 
     // Its buffers hold the same number in every byte. Without a heap they are arrays, of which a case takes a part.
-    fn run_in_buffers(&self, rt: &impl Print) -> io::Result<()> {
+    fn run_in_buffers(&self, rt: &impl Print) {
         let mut out = [FILLED; FIRST_MOST];
         let mut verdicts = [FILLED; THIRD_MOST];
         let n = size(self.head, OUT_ROOM, FIRST_MOST);
         let m = size(self.head, SECOND_ROOM, THIRD_MOST);
-        self.run(rt, &mut out[..n], &mut verdicts[..m])
+        self.run(rt, &mut out[..n], &mut verdicts[..m]);
     }
 }
 
 // The inputs follow the head. Where the file ends early, zeros stand for the rest.
-fn run_inputs(rt: &impl Print, file: &mut File, head: &Head) -> io::Result<()> {
+fn run_inputs(rt: &impl Print, file: &mut File, head: &Head) {
     let mut first = [0u8; FIRST_MOST];
     let mut second = [0u8; SECOND_MOST];
     let mut third = [0u8; THIRD_MOST];
@@ -90,17 +89,17 @@ fn run_inputs(rt: &impl Print, file: &mut File, head: &Head) -> io::Result<()> {
         second,
         third,
     }
-    .run_in_buffers(rt)
+    .run_in_buffers(rt);
 }
 
-// The next case of the file: whether there was one.
-pub fn run_case(rt: &impl Print, file: &mut File) -> io::Result<bool> {
+// The next case of the file: whether there was one. What cannot be written is not told, and the next write is tried.
+pub fn run_case(rt: &impl Print, file: &mut File) -> bool {
     let mut head = [0u8; HEAD_LENGTH];
     if file.read_exact(&mut head).is_err() {
-        return Ok(false);
+        return false;
     }
-    rt.write_all(&head[..LABEL_LENGTH])?;
-    run_inputs(rt, file, &head)?;
-    println!(rt;)?;
-    Ok(true)
+    let _ = rt.write_all(&head[..LABEL_LENGTH]);
+    run_inputs(rt, file, &head);
+    let _ = println!(rt;);
+    true
 }
