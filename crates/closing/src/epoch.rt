@@ -8,7 +8,7 @@ ghost use Rattle.closing.specs.Outcome.{close_complete};
 
 use crate::verdicts::put_verdicts;
 use forms::{Register, Sheet, Writing, verdicts_length};
-use judging::{Committed, Judged, complete};
+use judging::{Claims, Committed, Judged, complete, find_wrong};
 use next_rows::Committing;
 use rules::{Closed, MAX_ROWS, REGISTER_ROOM, Refusal, VERDICT_ROOM};
 
@@ -19,19 +19,19 @@ fn follows(register: &Register, sheet: &Sheet) -> bool
     u64::from(sheet.epoch()) == u64::from(register.snapshot()) + 1
 }
 
-// A complete sheet of the right epoch.
+// A complete sheet of the right epoch, judged.
 #[tactic(auto, using(sheets::specs::SheetSizes::few_sets))]
-fn close_complete<'a>(
-    register: Register<'a>,
-    sheet: Sheet<'a>,
+fn close_complete(
+    judged: &Judged,
     next: &mut [u8],
     verdicts: &mut [u8],
 ) -> Result<Closed, Refusal>
-    requires { (sheet_of sheet).epoch ≡ (register_of register).snapshot + 1 }
-    ensures { ClosePromise (close_complete (register_of register.entry) (sheet_of sheet.entry) (length next.old) (length verdicts.old)) next.old verdicts.old result next.new verdicts.new }
+    requires { (sheet_of judged.now.sheet).epoch ≡ (register_of judged.now.register).snapshot + 1 }
+    ensures { ClosePromise (close_complete (register_of judged.now.register) (sheet_of judged.now.sheet) (length next.old) (length verdicts.old)) next.old verdicts.old result next.new verdicts.new }
 {
-    let judged = Judged::new(register, sheet);
-    let lost = &judged.lost;
+    let register = judged.register;
+    let sheet = judged.sheet;
+    let lost = judged.lost;
     let committed = Committed { sheet, lost };
     let committing = Committing {
         register,
@@ -47,7 +47,7 @@ fn close_complete<'a>(
     let mut writing = Writing::start(next, sheet.epoch(), n);
     committing.put_rows(&mut writing);
     let length = writing.finish();
-    put_verdicts(&judged, verdicts);
+    put_verdicts(judged, verdicts);
     Ok(Closed {
         register: length,
         verdicts: verdicts_length(sheet.set_count()),
@@ -72,7 +72,20 @@ fn close_sheet<'a>(
     if !complete(&sheet) {
         return Err(Refusal::Incomplete);
     }
-    close_complete(register, sheet, next, verdicts)
+    let wrong = find_wrong(&register, &sheet);
+    let claims = Claims {
+        register,
+        sheet,
+        wrong: &wrong,
+    };
+    let lost = claims.find_lost();
+    let judged = Judged {
+        register,
+        sheet,
+        wrong: &wrong,
+        lost: &lost,
+    };
+    close_complete(&judged, next, verdicts)
 }
 
 // CLOSE, of any bytes.

@@ -29,6 +29,6 @@ pub fn put_verdicts(judged: &Judged, out: &mut [u8])
     ensures { out.new ≡ over out.old (flat verdict_bytes (verdicts (register_of judged.now.register) (sheet_of judged.now.sheet))) }
 {
     for i in 0..judged.sheet.set_count() {
-        put_verdict(out, i, verdict_of(judged.wrong[i], judged.lost[i]));
+        put_verdict(out, i, verdict_of(judged.wrong.key(i), judged.lost.key(i)));
     }
 }

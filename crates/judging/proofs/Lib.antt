@@ -3,6 +3,7 @@ pub mod Firsts
 pub mod FitLaws
 pub mod InOrder
 pub mod InsertLaws
+pub mod Keys
 pub mod Numbers
 pub mod Told
 pub mod WinnerLaws

@@ -4,11 +4,11 @@ ghost use Rattle.rules.specs.Sheet.{kind_number};
 ghost use Rattle.rules.specs.Becoming.{applied};
 ghost use Rattle.sheets.specs.SheetReadings.{max_total};
 ghost use Rattle.sheets.specs.Views.{sheet_of, set_of};
-ghost use Rattle.judging.specs.Tables.{none_at};
+ghost use Rattle.judging.specs.Tables.{keys_of, none_at};
 ghost use Rattle.judging.specs.Judged.{of_kind, Inserts, InsertsIn, LeastAbove, smaller};
 
-use crate::fit::Table;
 use crate::recorded::{mark_of, record_of};
+use crate::table::Table;
 use forms::{Sheet, WriteSet};
 use rules::{Kind, Mark, Record};
 
@@ -66,9 +66,9 @@ impl<'a> Committed<'a> {
     #[tactic(auto, using(sheets::specs::SheetSizes::few_sets), unfolding(crate::specs::Tables::none_at))]
     fn commits(&self, i: usize) -> bool
         requires { i < length (sheet_of self.now.sheet).sets }
-        ensures { result ≡ none_at self.now.lost.now i }
+        ensures { result ≡ none_at (keys_of self.now.lost.now) i }
     {
-        self.lost[i].is_none()
+        self.lost.key(i).is_none()
     }
 
     // How many records of a kind they have.
@@ -88,7 +88,7 @@ impl<'a> Committed<'a> {
 
     // The first key above `after` that one of them inserts.
     pub fn next_insert(&self, after: u32) -> Option<u32>
-        ensures { LeastAbove (InsertsIn (sheet_of self.now.sheet) self.now.lost.now (length (sheet_of self.now.sheet).sets)) after result }
+        ensures { LeastAbove (InsertsIn (sheet_of self.now.sheet) (keys_of self.now.lost.now) (length (sheet_of self.now.sheet).sets)) after result }
     {
         let mut least = None;
         for i in 0..self.sheet.set_count() {

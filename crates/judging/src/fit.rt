@@ -2,13 +2,11 @@
 ghost use Rattle.std.specs.Prelude.{◌≡◌};
 ghost use Rattle.registers.specs.Views.{register_of};
 ghost use Rattle.sheets.specs.Views.{sheet_of, set_of};
-ghost use Rattle.judging.specs.Tables.{wrong_key, Tells, HasKeyOf};
+ghost use Rattle.judging.specs.Tables.{keys_of, wrong_key, Tells, HasKeyOf, GivesKeys};
 
+use crate::table::Table;
 use forms::{Register, Sheet, WriteSet};
-use rules::{Kind, MAX_SETS};
-
-// For each set of a sheet a key of its own, if there is one; behind the last set there is none.
-pub type Table = [Option<u32>; MAX_SETS];
+use rules::Kind;
 
 // The key of the first record of the set that the register does not bear. Keys ascend in both, so the rows that are passed for one
 // record are passed for all: their index goes on from record to record, and is no `for`'s.
@@ -45,19 +43,20 @@ fn wrong_key(register: &Register, set: &WriteSet) -> Option<u32>
 // The table of the keys that a function gives for each set.
 #[tactic(auto, using(sheets::specs::SheetSizes::few_sets))]
 pub fn table<F: Fn(&WriteSet) -> Option<u32>>(sheet: &Sheet, key_of: F) -> Table
-    requires { F.IsAlwaysCallable key_of }
-    ensures { HasKeyOf F.Fn key_of (sheet_of sheet.now) result }
+    requires called { F.IsAlwaysCallable key_of }
+    requires keys { GivesKeys F.Fn key_of }
+    ensures { HasKeyOf F.Fn key_of (sheet_of sheet.now) (keys_of result) }
 {
-    let mut table = [None; MAX_SETS];
+    let mut table = Table::empty();
     for i in 0..sheet.set_count() {
-        table[i] = key_of(&sheet.set(i));
+        table.put(i, key_of(&sheet.set(i)));
     }
     table
 }
 
 // The table of wrong keys.
 pub fn find_wrong(register: &Register, sheet: &Sheet) -> Table
-    ensures { Tells (wrong_key (register_of register.now)) (sheet_of sheet.now) result }
+    ensures { Tells (wrong_key (register_of register.now)) (sheet_of sheet.now) (keys_of result) }
 {
     table(sheet, |set| wrong_key(register, set))
 }

@@ -4,10 +4,11 @@ ghost use Rattle.rules.specs.Closing.{winner};
 ghost use Rattle.registers.specs.Views.{register_of};
 ghost use Rattle.sheets.specs.Views.{sheet_of, set_of};
 ghost use Rattle.judging.specs.Answers.{winner_of, earlier_of, won_by};
-ghost use Rattle.judging.specs.Tables.{claims_by, wrong_key, lost_key, Tells};
+ghost use Rattle.judging.specs.Tables.{keys_of, claims_by, wrong_key, lost_key, Tells};
 
-use crate::fit::{Table, find_wrong, table};
+use crate::fit::table;
 use crate::recorded::{mark_of, record_of};
+use crate::table::Table;
 use forms::{Register, Sheet, WriteSet};
 use rules::Mark;
 
@@ -33,11 +34,11 @@ fn won_by(winner: Option<Mark>, csn: u64) -> bool
 
 // A register and a sheet, and the first key that is found wrong in each set. A set with none is fit, and claims its keys.
 #[derive(Clone, Copy)]
-struct Claims<'a> {
-    register: Register<'a>,
-    sheet: Sheet<'a>,
-    wrong: Table,
-    ghost told: { Tells (wrong_key (register_of register)) (sheet_of sheet) wrong },
+pub struct Claims<'a> {
+    pub register: Register<'a>,
+    pub sheet: Sheet<'a>,
+    pub wrong: &'a Table,
+    ghost told: { Tells (wrong_key (register_of register)) (sheet_of sheet) (keys_of wrong.now) },
 }
 
 impl<'a> Claims<'a> {
@@ -45,10 +46,9 @@ impl<'a> Claims<'a> {
     #[tactic(auto, using(sheets::specs::SheetSizes::few_sets))]
     fn claims(&self, i: usize, key: u32) -> bool
         requires { i < length (sheet_of self.now.sheet).sets }
-        ensures { result ≡ claims_by (sheet_of self.now.sheet) self.now.wrong i key }
+        ensures { result ≡ claims_by (sheet_of self.now.sheet) (keys_of self.now.wrong.now) i key }
     {
-        let wrong = self.wrong[i];
-        wrong.is_none() && record_of(&self.sheet.set(i), key).is_some()
+        self.wrong.key(i).is_none() && record_of(&self.sheet.set(i), key).is_some()
     }
 
     // The mark of the set that wins the key, if a fit set claims it.
@@ -74,8 +74,8 @@ impl<'a> Claims<'a> {
     }
 
     // The table of lost keys. An unfit set wins nothing, so just those that commit have none.
-    fn find_lost(&self) -> Table
-        ensures { Tells (lost_key (register_of self.now.register) (sheet_of self.now.sheet)) (sheet_of self.now.sheet) result }
+    pub fn find_lost(&self) -> Table
+        ensures { Tells (lost_key (register_of self.now.register) (sheet_of self.now.sheet)) (sheet_of self.now.sheet) (keys_of result) }
     {
         table(&self.sheet, |set| self.lost_key(set))
     }
@@ -86,29 +86,8 @@ impl<'a> Claims<'a> {
 pub struct Judged<'a> {
     pub register: Register<'a>,
     pub sheet: Sheet<'a>,
-    pub wrong: Table,
-    pub lost: Table,
-    ghost tells_wrong: { Tells (wrong_key (register_of register)) (sheet_of sheet) wrong },
-    ghost tells_lost: { Tells (lost_key (register_of register) (sheet_of sheet)) (sheet_of sheet) lost },
-}
-
-impl<'a> Judged<'a> {
-    pub fn new(register: Register<'a>, sheet: Sheet<'a>) -> Judged<'a>
-        ensures register { register_of result.register ≡ register_of register.entry }
-        ensures sheet { sheet_of result.sheet ≡ sheet_of sheet.entry }
-    {
-        let wrong = find_wrong(&register, &sheet);
-        let claims = Claims {
-            register,
-            sheet,
-            wrong,
-        };
-        let lost = claims.find_lost();
-        Judged {
-            register,
-            sheet,
-            wrong,
-            lost,
-        }
-    }
+    pub wrong: &'a Table,
+    pub lost: &'a Table,
+    ghost tells_wrong: { Tells (wrong_key (register_of register)) (sheet_of sheet) (keys_of wrong.now) },
+    ghost tells_lost: { Tells (lost_key (register_of register) (sheet_of sheet)) (sheet_of sheet) (keys_of lost.now) },
 }

@@ -6,8 +6,10 @@ mod completeness;
 mod fit;
 mod judge;
 mod recorded;
+mod table;
 
 pub use committed::{Committed, Write};
 pub use completeness::complete;
-pub use fit::Table;
-pub use judge::Judged;
+pub use fit::find_wrong;
+pub use judge::{Claims, Judged};
+pub use table::Table;

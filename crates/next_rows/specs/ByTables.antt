@@ -11,7 +11,7 @@ use Rattle.laws.specs.Choice.{Choice, chosen}
 use Rattle.registers.specs.Views.{register_of}
 use Rattle.sheets.specs.Views.{sheet_of}
 use Rattle.judging.specs.declared.judge.Judged.{Judged}
-use Rattle.judging.specs.Tables.{committed_in}
+use Rattle.judging.specs.Tables.{keys_of, committed_in}
 use Rattle.judging.specs.TableLaws.{table_commits}
 
 -- judged a register and a sheet, g and s
@@ -19,11 +19,11 @@ module _ (j : Judged) {g : Register} {s : Sheet} (p : register_of j.register ≡
   sound_s : sound_sheet s ≡ true
   sound_s = rw q at (sheet_sound _ j.sheet.examined)
 
-  closing_commits : committed_in s j.lost ≡ committed g s
-  closing_commits = table_commits g s j.lost sound_s (rw (p, q) at j.tells_lost)
+  closing_commits : committed_in s (keys_of j.lost.now) ≡ committed g s
+  closing_commits = table_commits g s (keys_of j.lost.now) sound_s (rw (p, q) at j.tells_lost)
 
-  pub committing : Choice g s (committed_in s j.lost)
+  pub committing : Choice g s (committed_in s (keys_of j.lost.now))
   committing = rw closing_commits (chosen g s sound_s)
 
-  pub closing_rows : rows_after s (committed_in s j.lost) g.rows ≡ next_rows g s
+  pub closing_rows : rows_after s (committed_in s (keys_of j.lost.now)) g.rows ≡ next_rows g s
   closing_rows = ap (λ (c : List WriteSet). rows_after s c g.rows) closing_commits

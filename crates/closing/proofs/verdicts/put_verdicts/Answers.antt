@@ -19,7 +19,7 @@ loop-i-preserved c = let l = c.loop-i in
     let e = c.put_verdict.ensures in
     let h : l.i < length s.sets = omega arith in (
       e.long ∙ l.invariant.0,
-      verdicts_step g s _ l.i _ h (c.verdict_of.ensures ∙ ap₂ verdict_by (j.tells_wrong l.i h) (j.tells_lost l.i h) ∙ verdict_by_lem g s (set_at s l.i)) l.invariant.1 e,
+      verdicts_step g s _ l.i _ h (c.verdict_of.ensures ∙ ap₂ verdict_by (c.key.ensures ∙ j.tells_wrong l.i h) (c.key-in-loop-i.ensures ∙ j.tells_lost l.i h) ∙ verdict_by_lem g s (set_at s l.i)) l.invariant.1 e,
     )
 
 pub returns : goal.returns

@@ -4,9 +4,10 @@ use Rattle.std.specs.Fn.{FnReturnsAt}
 use Rattle.rules.specs.Sheet.{max_sets}
 use Rattle.sheets.specs.SheetReadings.{set_at}
 use Rattle.sheets.specs.Views.{sheet_of, set_of}
+use Rattle.judging.specs.Tables.{keys_of}
 use Rattle.judging.proofs.fit.table.Given as goal
 
 abbrev pub invariant-loop-i : goal.invariant-loop-i
 invariant-loop-i g l =
-    (length l.table ≡ max_sets)
-    × ((k : ℕ) → k < l.i → (w : _) × (set_of w ≡ set_at (sheet_of l.sheet) k) × FnReturnsAt g.F.Fn l.key_of w (get_or l.table k None))
+    (length (keys_of l.table) ≡ max_sets)
+    × ((k : ℕ) → k < l.i → (w : _) × (set_of w ≡ set_at (sheet_of l.sheet) k) × FnReturnsAt g.F.Fn l.key_of w (get_or (keys_of l.table) k None))

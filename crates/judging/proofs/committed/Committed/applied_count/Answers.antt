@@ -4,6 +4,7 @@ use Rattle.rules.specs.Sheet.{WriteSet, kind_number}
 use Rattle.sheets.specs.SheetSizes.{few_sets}
 use Rattle.sheets.specs.Views.{sheet_of}
 use Rattle.judging.specs.Judged.{of_kind}
+use Rattle.judging.specs.Tables.{keys_of}
 use Rattle.judging.proofs.AppliedLaws.{counted_none, counted_more, counted_same, counted_all, kinds_few}
 use Rattle.judging.proofs.committed.Committed.applied_count.Goals as goal
 use Rattle.judging.proofs.committed.Committed.applied_count.Goals.{then-commits, else-commits}
@@ -17,7 +18,7 @@ overflow_add-count c =
 
 pub loop-i-preserved : goal.loop-i-preserved
 loop-i-preserved c = let l = c.loop-i in
-    let lost = c.args.self.now.lost.now in
+    let lost = keys_of c.args.self.now.lost.now in
     let s = sheet_of c.args.self.now.sheet in
     let k = kind_number c.args.kind in
     elim c.if-commits.branch [

@@ -1,13 +1,14 @@
 -- The least of the keys that the committed sets before set i insert.
 use Rattle.std.proofs.Common.{◌≡◌, sym, ◌∙◌, arith, length}
 use Rattle.sheets.specs.Views.{sheet_of}
+use Rattle.judging.specs.Tables.{keys_of}
 use Rattle.judging.proofs.InsertLaws.{inserts_more, inserts_same}
 use Rattle.judging.proofs.committed.Committed.next_insert.Goals as goal
 use Rattle.judging.proofs.committed.Committed.next_insert.Goals.{then-commits, else-commits}
 
 pub loop-i-preserved : goal.loop-i-preserved
 loop-i-preserved c = let l = c.loop-i in
-    let lost = c.args.self.now.lost.now in
+    let lost = keys_of c.args.self.now.lost.now in
     let s = sheet_of c.args.self.now.sheet in
     elim c.if-commits.branch [
       | then-commits w ↦ rw (w.least-is ∙ w.smaller-least.ensures)
