@@ -21,11 +21,7 @@ fn follows(register: &Register, sheet: &Sheet) -> bool
 
 // A complete sheet of the right epoch, judged.
 #[tactic(auto, using(sheets::specs::SheetSizes::few_sets))]
-fn close_complete(
-    judged: &Judged,
-    next: &mut [u8],
-    verdicts: &mut [u8],
-) -> Result<Closed, Refusal>
+fn close_complete(judged: &Judged, next: &mut [u8], verdicts: &mut [u8]) -> Result<Closed, Refusal>
     requires { (sheet_of judged.now.sheet).epoch ≡ (register_of judged.now.register).snapshot + 1 }
     ensures { ClosePromise (close_complete (register_of judged.now.register) (sheet_of judged.now.sheet) (length next.old) (length verdicts.old)) next.old verdicts.old result next.new verdicts.new }
 {
