@@ -8,7 +8,7 @@ ghost use Rattle.closing.specs.Outcome.{close_complete};
 
 use crate::verdicts::put_verdicts;
 use forms::{Register, Sheet, Writing, verdicts_length};
-use judging::{Claims, Committed, Judged, complete, find_wrong};
+use judging::{Committed, Judged, Table, complete};
 use next_rows::Committing;
 use rules::{Closed, MAX_ROWS, REGISTER_ROOM, Refusal, VERDICT_ROOM};
 
@@ -19,14 +19,20 @@ fn follows(register: &Register, sheet: &Sheet) -> bool
     u64::from(sheet.epoch()) == u64::from(register.snapshot()) + 1
 }
 
-// A complete sheet of the right epoch, judged.
+// A complete sheet of the right epoch.
 #[tactic(auto, using(sheets::specs::SheetSizes::few_sets))]
-fn close_complete(judged: &Judged, next: &mut [u8], verdicts: &mut [u8]) -> Result<Closed, Refusal>
-    requires { (sheet_of judged.now.sheet).epoch ≡ (register_of judged.now.register).snapshot + 1 }
-    ensures { ClosePromise (close_complete (register_of judged.now.register) (sheet_of judged.now.sheet) (length next.old) (length verdicts.old)) next.old verdicts.old result next.new verdicts.new }
+fn close_complete<'a>(
+    register: Register<'a>,
+    sheet: Sheet<'a>,
+    next: &mut [u8],
+    verdicts: &mut [u8],
+) -> Result<Closed, Refusal>
+    requires { (sheet_of sheet).epoch ≡ (register_of register).snapshot + 1 }
+    ensures { ClosePromise (close_complete (register_of register.entry) (sheet_of sheet.entry) (length next.old) (length verdicts.old)) next.old verdicts.old result next.new verdicts.new }
 {
-    let register = judged.register;
-    let sheet = judged.sheet;
+    let mut wrong = Table::empty();
+    let mut lost = Table::empty();
+    let judged = Judged::new(register, sheet, &mut wrong, &mut lost);
     let lost = judged.lost;
     let committed = Committed { sheet, lost };
     let committing = Committing {
@@ -43,7 +49,7 @@ fn close_complete(judged: &Judged, next: &mut [u8], verdicts: &mut [u8]) -> Resu
     let mut writing = Writing::start(next, sheet.epoch(), n);
     committing.put_rows(&mut writing);
     let length = writing.finish();
-    put_verdicts(judged, verdicts);
+    put_verdicts(&judged, verdicts);
     Ok(Closed {
         register: length,
         verdicts: verdicts_length(sheet.set_count()),
@@ -68,20 +74,7 @@ fn close_sheet<'a>(
     if !complete(&sheet) {
         return Err(Refusal::Incomplete);
     }
-    let wrong = find_wrong(&register, &sheet);
-    let claims = Claims {
-        register,
-        sheet,
-        wrong: &wrong,
-    };
-    let lost = claims.find_lost();
-    let judged = Judged {
-        register,
-        sheet,
-        wrong: &wrong,
-        lost: &lost,
-    };
-    close_complete(&judged, next, verdicts)
+    close_complete(register, sheet, next, verdicts)
 }
 
 // CLOSE, of any bytes.

@@ -1,17 +1,22 @@
 -- The keys of a table by the numbers in it; and the first key of a set can stand there, since its records are sound.
-use Rattle.std.proofs.Common.{ℕ, ◌<◌, ◌≡◌, refl, arith, List, map, get_or, ne_eqb, Bool, true, Option, None, Some}
-use Rattle.std.proofs.Math.ListN.{get_or-map}
+use Rattle.std.proofs.Common.{ℕ, ◌≡◌, refl, ◌∙◌, arith, List, map, length, get_or, ne_eqb, Bool, true, Option, None, Some}
+use Rattle.std.proofs.Math.ListN.{get_or-map, length-map}
 use Rattle.rules.specs.declared.row.Record.{Record}
 use Rattle.rules.specs.Lists.{first}
 use Rattle.rules.specs.Register.{Register}
-use Rattle.rules.specs.Sheet.{WriteSet, Sheet, sound_records}
+use Rattle.rules.specs.Sheet.{WriteSet, Sheet, max_sets, sound_records}
 use Rattle.rules.specs.Closing.{first_wrong, first_lost}
 use Rattle.laws.specs.Commits.{records_rising}
 use Rattle.laws.specs.ListLaws.{first→}
 use Rattle.sheets.specs.declared.set.WriteSet as view
 use Rattle.sheets.specs.SheetMembers.{records_sound}
 use Rattle.sheets.specs.Views.{set_of}
-use Rattle.judging.specs.Tables.{in_table, from_table, IsKey, first_key, wrong_key, lost_key}
+use Rattle.judging.specs.declared.table.Table.{Table}
+use Rattle.judging.specs.Tables.{in_table, from_table, keys_of, IsKey, first_key, wrong_key, lost_key}
+
+pub all_places : (t : Table) → length (keys_of t) ≡ max_sets
+unfolding keys_of
+all_places t = length-map t.keys from_table ∙ t.places
 
 pub key_there : (xs : List ℕ) (i : ℕ) → get_or (map from_table xs) i None ≡ from_table (get_or xs i 0)
 unfolding from_table

@@ -40,23 +40,21 @@ fn wrong_key(register: &Register, set: &WriteSet) -> Option<u32>
     wrong
 }
 
-// The table of the keys that a function gives for each set.
+// Puts into a table the keys that a function gives for each set.
 #[tactic(auto, using(sheets::specs::SheetSizes::few_sets))]
-pub fn table<F: Fn(&WriteSet) -> Option<u32>>(sheet: &Sheet, key_of: F) -> Table
+pub fn fill<F: Fn(&WriteSet) -> Option<u32>>(table: &mut Table, sheet: &Sheet, key_of: F)
     requires called { F.IsAlwaysCallable key_of }
     requires keys { GivesKeys F.Fn key_of }
-    ensures { HasKeyOf F.Fn key_of (sheet_of sheet.now) (keys_of result) }
+    ensures { HasKeyOf F.Fn key_of (sheet_of sheet.now) (keys_of table.new) }
 {
-    let mut table = Table::empty();
     for i in 0..sheet.set_count() {
         table.put(i, key_of(&sheet.set(i)));
     }
-    table
 }
 
 // The table of wrong keys.
-pub fn find_wrong(register: &Register, sheet: &Sheet) -> Table
-    ensures { Tells (wrong_key (register_of register.now)) (sheet_of sheet.now) (keys_of result) }
+pub fn find_wrong(register: &Register, sheet: &Sheet, wrong: &mut Table)
+    ensures { Tells (wrong_key (register_of register.now)) (sheet_of sheet.now) (keys_of wrong.new) }
 {
-    table(sheet, |set| wrong_key(register, set))
+    fill(wrong, sheet, |set| wrong_key(register, set))
 }

@@ -6,7 +6,7 @@ ghost use Rattle.sheets.specs.Views.{sheet_of, set_of};
 ghost use Rattle.judging.specs.Answers.{winner_of, earlier_of, won_by};
 ghost use Rattle.judging.specs.Tables.{keys_of, claims_by, wrong_key, lost_key, Tells};
 
-use crate::fit::table;
+use crate::fit::{fill, find_wrong};
 use crate::recorded::{mark_of, record_of};
 use crate::table::Table;
 use forms::{Register, Sheet, WriteSet};
@@ -34,10 +34,10 @@ fn won_by(winner: Option<Mark>, csn: u64) -> bool
 
 // A register and a sheet, and the first key that is found wrong in each set. A set with none is fit, and claims its keys.
 #[derive(Clone, Copy)]
-pub struct Claims<'a> {
-    pub register: Register<'a>,
-    pub sheet: Sheet<'a>,
-    pub wrong: &'a Table,
+struct Claims<'a> {
+    register: Register<'a>,
+    sheet: Sheet<'a>,
+    wrong: &'a Table,
     ghost told: { Tells (wrong_key (register_of register)) (sheet_of sheet) (keys_of wrong.now) },
 }
 
@@ -74,10 +74,10 @@ impl<'a> Claims<'a> {
     }
 
     // The table of lost keys. An unfit set wins nothing, so just those that commit have none.
-    pub fn find_lost(&self) -> Table
-        ensures { Tells (lost_key (register_of self.now.register) (sheet_of self.now.sheet)) (sheet_of self.now.sheet) (keys_of result) }
+    fn find_lost(&self, lost: &mut Table)
+        ensures { Tells (lost_key (register_of self.now.register) (sheet_of self.now.sheet)) (sheet_of self.now.sheet) (keys_of lost.new) }
     {
-        table(&self.sheet, |set| self.lost_key(set))
+        fill(lost, &self.sheet, |set| self.lost_key(set))
     }
 }
 
@@ -90,4 +90,32 @@ pub struct Judged<'a> {
     pub lost: &'a Table,
     ghost tells_wrong: { Tells (wrong_key (register_of register)) (sheet_of sheet) (keys_of wrong.now) },
     ghost tells_lost: { Tells (lost_key (register_of register) (sheet_of sheet)) (sheet_of sheet) (keys_of lost.now) },
+}
+
+impl<'a> Judged<'a> {
+    // The tables are filled where they stand, whatever they held.
+    pub fn new(
+        register: Register<'a>,
+        sheet: Sheet<'a>,
+        wrong: &'a mut Table,
+        lost: &'a mut Table,
+    ) -> Judged<'a>
+        ensures register { register_of result.register ≡ register_of register.entry }
+        ensures sheet { sheet_of result.sheet ≡ sheet_of sheet.entry }
+    {
+        find_wrong(&register, &sheet, wrong);
+        let wrong: &'a Table = wrong;
+        let claims = Claims {
+            register,
+            sheet,
+            wrong,
+        };
+        claims.find_lost(lost);
+        Judged {
+            register,
+            sheet,
+            wrong,
+            lost,
+        }
+    }
 }

@@ -10,6 +10,5 @@ mod table;
 
 pub use committed::{Committed, Write};
 pub use completeness::complete;
-pub use fit::find_wrong;
-pub use judge::{Claims, Judged};
+pub use judge::Judged;
 pub use table::Table;

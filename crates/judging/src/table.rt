@@ -1,6 +1,6 @@
 // A table: for each set of a sheet a key of its own, if there is one; behind the last set there is none. A key is at least 1, so 0 stands
 // for none, and this file alone reads and writes it so. An array of options would be twice as long, and C's memset would clear it.
-ghost use Rattle.std.specs.Prelude.{◌≡◌, ◌<◌, get_or, set, replicate, None};
+ghost use Rattle.std.specs.Prelude.{◌≡◌, ◌<◌, get_or, set, replicate, length, None};
 ghost use Rattle.rules.specs.Sheet.{max_sets};
 
 use rules::MAX_SETS;
@@ -8,6 +8,7 @@ use rules::MAX_SETS;
 #[derive(Clone, Copy)]
 pub struct Table {
     keys: [u32; MAX_SETS],
+    ghost places: { length keys ≡ max_sets },
 }
 
 impl Table {
@@ -32,7 +33,7 @@ impl Table {
     }
 
     // Place i has the key from now on.
-    pub fn put(&mut self, i: usize, key: Option<u32>)
+    pub(crate) fn put(&mut self, i: usize, key: Option<u32>)
         requires place { i < max_sets }
         requires key { IsKey key }
         ensures { keys_of self.new ≡ set (keys_of self.old) i key }
