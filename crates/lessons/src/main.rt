@@ -36,13 +36,14 @@ const REFUSED: [&str; 16] = [
     "rows_1025",
 ];
 
-// The name line and the report, each by itself: what cannot be written is not told, and the next write is tried.
+// The name, the end of its line and the report, each by itself: what cannot be written is not told, and the next write is tried.
 fn run_file(rt: &HostRuntime, name: &str) {
     match File::open(rt, name) {
         Ok(file) => {
             let mut out = [0u8; REPORT_ROOM];
             let n = program::run(file.as_raw_fd(), &mut out);
-            let _ = println!(rt; "{name}:");
+            let _ = rt.write_all(name.as_bytes());
+            let _ = rt.println(":");
             let _ = rt.write_all(&out[..n]);
         }
         Err(e) => {

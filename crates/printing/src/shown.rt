@@ -24,6 +24,17 @@ fn sum(bytes: &[u8]) -> u64 {
     s
 }
 
+const DIGITS: [u8; 16] = *b"0123456789abcdef";
+
+// A byte by its two hexadecimal digits, which are one word: `{b:02x}` hands them on one by one, and where a write fails one alone would stand.
+fn show_byte<W: fmt::Write>(f: &mut fmt::Formatter<W>, b: u8) -> fmt::Result {
+    let digits = [DIGITS[usize::from(b / 16)], DIGITS[usize::from(b % 16)]];
+    match std::str::from_utf8(&digits) {
+        Ok(word) => f.write_str(word),
+        Err(_) => Err(fmt::Error),
+    }
+}
+
 // Every byte by two hexadecimal digits, or the sum of more bytes than verdicts can have.
 #[derive(Clone, Copy)]
 pub struct Shown<'a>(pub &'a [u8]);
@@ -38,8 +49,8 @@ impl fmt::Display for Shown<'_> {
             return write!(f, " sum {}", sum(bytes));
         }
         write!(f, " ")?;
-        for b in bytes {
-            write!(f, "{b:02x}")?;
+        for &b in bytes {
+            show_byte(f, b)?;
         }
         Ok(())
     }

@@ -21,7 +21,8 @@ impl fmt::Display for Checked {
         match self.0 {
             Ok(None) => write!(f, "pass"),
             Ok(Some(Failure { index, key, reason })) => {
-                write!(f, "fails {index} {key} {}", u32::from(reason))
+                write!(f, "fails")?;
+                write!(f, " {index} {key} {}", u32::from(reason))
             }
             Err(x) => write!(f, "{}", Refused(x)),
         }

@@ -8,6 +8,8 @@ use cases::{
 };
 use desk_cases::{run_enter, run_offer, run_tag};
 use read_cases::{run_check, run_list};
+use std::fmt;
+use std::fmt::Write;
 use std::fs::File;
 use std::io::Read;
 use words::Word;
@@ -30,6 +32,19 @@ fn size(head: &Head, at: usize, most: usize) -> usize
     most.min(u32::get(head, at) as usize)
 }
 
+// What is shown, written word by word: what cannot be written is let go, and the next word is tried.
+#[derive(Drop)]
+struct WordByWord<'a, P: Print> {
+    rt: &'a P,
+}
+
+impl<P: Print> fmt::Write for WordByWord<'_, P> {
+    fn write_str(&mut self, word: &str) -> fmt::Result {
+        let _ = self.rt.write_all(word.as_bytes());
+        Ok(())
+    }
+}
+
 // A case as it was read.
 #[derive(Clone, Copy)]
 struct Case<'a> {
@@ -48,17 +63,18 @@ impl Case<'_> {
             second,
             third,
         } = *self;
+        let mut shown = WordByWord { rt };
         let _ = match head[OPERATION] {
-            1 => rt.print(run_open(head, out)),
-            2 => rt.print(run_put(head, first, second, out)),
-            3 => rt.print(run_notice(head, first, out)),
-            4 => rt.print(run_join(first, second, out)),
-            5 => rt.print(run_close(first, second, out, verdicts)),
-            6 => rt.print(run_check(head, first, second, third)),
-            7 => rt.print(run_list(head, first, second, third)),
-            8 => rt.print(run_enter(head, first, second)),
-            9 => rt.print(run_offer(head, first, second, out)),
-            _ => rt.print(run_tag(head, out)),
+            1 => write!(shown, "{}", run_open(head, out)),
+            2 => write!(shown, "{}", run_put(head, first, second, out)),
+            3 => write!(shown, "{}", run_notice(head, first, out)),
+            4 => write!(shown, "{}", run_join(first, second, out)),
+            5 => write!(shown, "{}", run_close(first, second, out, verdicts)),
+            6 => write!(shown, "{}", run_check(head, first, second, third)),
+            7 => write!(shown, "{}", run_list(head, first, second, third)),
+            8 => write!(shown, "{}", run_enter(head, first, second)),
+            9 => write!(shown, "{}", run_offer(head, first, second, out)),
+            _ => write!(shown, "{}", run_tag(head, out)),
         };
     }
 
