@@ -33,7 +33,7 @@ impl Table {
     }
 
     // Place i has the key from now on.
-    pub(crate) fn put(&mut self, i: usize, key: Option<u32>)
+    pub fn put(&mut self, i: usize, key: Option<u32>)
         requires place { i < max_sets }
         requires key { IsKey key }
         ensures { keys_of self.new ≡ set (keys_of self.old) i key }
